@@ -43,7 +43,7 @@ def beside(kind, other, many):
     """A kind of transaction beside one other, and beside as many as there may be."""
     messages = many if kind == "receive" else 0
     one, most = ([kind, DIRECTORY, CELLS, other, n, messages] for n in (1, MOST_OPEN))
-    return Row(f"{kind} beside {MOST_OPEN} that have {other}, and beside 1", one, most, many)
+    return Row(f"{kind} beside 1 that has {other}, and beside {MOST_OPEN}", one, most, many)
 
 
 def rows():
@@ -53,11 +53,11 @@ def rows():
             yield beside(kind, other, many)
     # The same number of pages; all messages are of the last group.
     small, large = (["receive", pages, 2000 - pages, "begun", 0, 6500] for pages in (1, 1000))
-    yield Row("receive in 15,000 groups of which one has messages, and in 15", small, large, 6500)
+    yield Row("receive in 15 groups, and in 15,000 of which one has messages", small, large, 6500)
     # The greatest store, with few cells used and with most.
     for kind, few in (("send", 0), ("receive", 20500)):
         empty, full = ([kind, 1, 65536, "begun", 0, messages] for messages in (few, 900000))
-        yield Row(f"{kind} with 900,000 of 983,040 cells used, and with {few}", empty, full, 20500)
+        yield Row(f"{kind} with {few} of 983,040 cells used, and with 900,000", empty, full, 20500)
 
 
 def run(program, case, transactions):

@@ -82,9 +82,9 @@ UNABLE = [
 ]  # fmt: skip
 
 # So many allocations of a list or a script at most are for that. Lists have up to 47: some 40 to be read, 7 to print what they come
-# to, and one where a crash names images. What `more_others` counts comes beside. Scripts have up to 136, all before their first line is
+# to, and one where a crash names images. What `more_others` counts comes beside. Scripts have up to 138, all before their first line is
 # run, 82 of them for words.
-MOST_OF_LIST, MOST_OF_SCRIPT = 48, 137
+MOST_OF_LIST, MOST_OF_SCRIPT = 48, 139
 
 # More than the allocations by which a program reads one line more.
 MORE = 12

@@ -17,7 +17,7 @@ use Rattle.rq_engine.specs.Opened.{pooled}
 use Rattle.rq_engine.specs.Says.{call_of}
 use Rattle.rq_engine.proofs.Crashing.{runs_through_cuts}
 use Rattle.rq_pool.specs.declared.Written.TheVariants.{Done}
-use Rattle.rq_pool.proofs.KeptUp.{kept_after}
+use Rattle.rq_pool.proofs.KeptUp.{kept_after, kept_then}
 use Rattle.rq_core.specs.Devices.{mem_log, mem_pages}
 use Rattle.rq_cases.specs.Applied.{CallsAreApplied, Makes, MeetsAll, written_out}
 use Rattle.rq_cases.specs.Opened.{AreNewPages, IsForcedSince, IsNewLog, over}
@@ -47,7 +47,7 @@ module _ (pages : MemPages) (old new : MemLog) (p : AreNewPages pages formatted_
   force_made = record {
     steps = λ h earlier long k. running.force;
     cause = λ h earlier long k. tt;
-    latched = λ true_pages earlier long k. tt;
+    latched = λ earlier long k. tt;
     sizes = refl;
     unknown = refl;
     replacing = refl;
@@ -89,19 +89,25 @@ applied = record {
   another_sizes = λ old new e r other a. other a.sizes;
   failed_while_it_runs = λ old new e runs a. (let f = sym runs ∙ a.failed.0 refl in cc f);
   answered_while_it_failed = λ old new fails a. (let f = a.failed.1 fails in cc f);
-  refused_and_changed = λ old new e reads other a. other (subst (λ (b : Bool). RefusedBy b (starts_one e) (writes_out (call_of e)) old why.NoMemory new) reads a.refused);
+  refused_and_changed = λ old new e reads other a. other (subst (λ (b : Bool). RefusedBy b (starts_one (call_of e)) (writes_out (call_of e)) old why.NoMemory new) reads a.refused);
   refused_by_a_test_and_changed = λ old new t other a. other a.refused;
-  evicted = λ pages new log t r after.
-      kept_after mem_pages 5 (pooled (over forced pages log)) (pooled (written_out pages new log)) 2 (Ok Done)
-      (record { of_store = omega arith; changed = refl }, let e = cell_page_lsn in omega (arith, e)) after refl refl refl;
+  evicted = λ pages new log t sub after. (
+    kept_after mem_pages 5 (pooled (over forced pages log)) (pooled (written_out pages new log)) 2 (Ok Done)
+        (record { of_store = omega arith; changed = refl }, let e = cell_page_lsn in omega (arith, e)) after refl refl refl,
+    after.2,
+  );
+  evicted_again = λ forced old mid new a b. kept_then mem_pages forced old mid new a b;
   evicted_and_failed = λ old new t runs a.
       (let f = sym runs ∙ ap (λ (s : State). s.failed) a.refused in cc f);
-  page_marked = λ old new t r page clean marked a. (let f = sym clean ∙ (a.pages.changed page marked).was in cc f);
+  failure_passed_over = λ old new t sub other a. other a.pages.1;
+  failure_made_up = λ old new t low same a. (let f = a.pages.1 in omega (arith, low, same, f));
+  change_forgotten = λ old new t r page marked gone low a. (let f = (a.pages.0.written page marked gone).lsn in omega (arith, low, f));
+  page_marked = λ old new t r page clean marked a. (let f = sym clean ∙ (a.pages.0.changed page marked).was in cc f);
   clean_page_written = λ old new t r page c clean may not a.
-      ⊎_elim not (λ f. (let e = sym clean ∙ f.changed in cc e)) (a.pages.crash page c may);
+      ⊎_elim not (λ f. (let e = sym clean ∙ f.changed in cc e)) (a.pages.0.crash page c may);
   evicted_ahead_of_its_log = λ old new t r page c low may not a.
-      ⊎_elim not (λ f. (let e = f.lsn in omega (arith, e, low))) (a.pages.crash page c may);
-  another_image = λ old new t r other a. other (a.pages.images tt);
+      ⊎_elim not (λ f. (let e = f.lsn in omega (arith, e, low))) (a.pages.0.crash page c may);
+  another_image = λ old new t r other a. other (a.pages.0.images tt);
   log_touched = λ old new t r other a. other a.log;
   written_ahead_of_its_log = λ pages log new a.
       (let f : lsn_of (page_image 2 2 2 cells_1) ≤ 1 = a.writes.1.1 in let e = cell_page_lsn in omega (arith, e, f));

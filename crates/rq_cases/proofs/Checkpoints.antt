@@ -50,7 +50,7 @@ module _ (records : List Record) (told : AreSpelled records) (whole : IsWhole si
     left = record { whole = whole; fits = fits_log (mem_pages.may_be pages) sizes records images fit a; based = hold_base (mem_pages.may_be pages) sizes records images fit a };
   }
 
-based_told : AreSpelled based_log
+pub based_told : AreSpelled based_log
 based_told = (fits_base 1 1 ((omega arith, omega arith, omega arith, omega arith)), tt)
 
 module _ (pages : MemPages) (log : MemLog) (h : Hold pages formatted_pages log based_log) where
@@ -92,7 +92,7 @@ module _ (pages : MemPages) (log : MemLog) (h : Hold pages formatted_pages log l
         content = λ g. content_is g log_1 fresh_sound.log.rules ∙ ap (λ c. group_in c g) (sym (commits_of_cut 0 log_1));
       }
 
-failed_sound : IsSound (failed fresh)
+pub failed_sound : IsSound (failed fresh)
 failed_sound = (failed_steps fresh fresh_sound refl Checkpoint).sound
 
 pub checkpoints : CheckpointsAreJudged

@@ -5,13 +5,13 @@ use Rattle.std.specs.Prelude.{Vec}
 use Rattle.std.specs.declared.alloc.Global.{Global}
 use Rattle.rq_model.specs.declared.record.Record.{Record}
 use Rattle.rq_disk.specs.Device.{Images, Leaves, Only}
-use Rattle.rq_disk.specs.Memory.{LogState, LogSince, MayBe, MayLeave, PageState, fresh_pages, log_after, log_only, log_reads, pages_only}
-use Rattle.rq_disk.specs.Shown.{log_of}
+use Rattle.rq_disk.specs.Memory.{LogState, LogSince, MayBe, MayLeave, PageState, fresh_pages, log_after, log_only, log_reads, pages_after, pages_only}
+use Rattle.rq_disk.specs.Shown.{log_of, pages_of}
 use Rattle.rq_disk.specs.declared.mem_log.LogCall.{LogCall}
 use Rattle.rq_disk.specs.declared.mem_log.LogCall.TheVariants.{Append, Force}
 use Rattle.rq_disk.specs.declared.mem_log.MemLog.{MemLog}
 use Rattle.rq_disk.specs.declared.mem_pages.MemPages.{MemPages}
-use Rattle.rq_disk.specs.declared.mem_pages.PageCall.{PageCall}
+use Rattle.rq_disk.specs.declared.mem_pages.PageCall.TheVariants.{Write}
 use Rattle.rq_disk.proofs.KeptLog.{fresh_only}
 use Rattle.rq_log.specs.Crash.{LeavesOnly}
 use Rattle.rq_model.specs.Bases.{HasNoBase, gone}
@@ -43,13 +43,17 @@ first_is all kept c plain first =
     let e : kept ≡ kept - gone all = (let none = none_gone all plain in omega (arith, none)) in
     subst (λ (l : List Record). AreFirst l (kept - gone all) c) (sym (all_stand all plain)) (subst (λ (n : ℕ). AreFirst all n c) e first)
 
--- pages that are formatted, with no call since
+-- pages with these images, with no call since
+pub only_images : (images : List (List ℕ)) (d : MemPages) → AreNewPages d images → (p : ℕ) (c : List ℕ) → mem_pages.may_be d p c → c ≡ image_in images p
+only_images images d n p c may = at (subst (λ (s : PageState). MayBe s p c) n.pages may) where
+  at : MayBe (fresh_pages images) p c → c ≡ image_in images p
+  at (inl e) = e
+  at (inr none) = absurd none
+
+-- pages that are formatted
 module _ (d : MemPages) (n : AreNewPages d formatted_pages) where
   pub only_formatted : (p : ℕ) (c : List ℕ) → mem_pages.may_be d p c → c ≡ image_in formatted_pages p
-  only_formatted p c may = at (subst (λ (s : PageState). MayBe s p c) n.pages may) where
-    at : MayBe (fresh_pages formatted_pages) p c → c ≡ image_in formatted_pages p
-    at (inl e) = e
-    at (inr none) = absurd none
+  only_formatted = only_images formatted_pages d n
 
   pub pages_fit : (log : List Record) → Continues [] log → HasNoBase log → AllFit (mem_pages.may_be d) sizes log
   pages_fit log c plain =
@@ -167,7 +171,19 @@ module _ (all : List Record) (plain : HasNoBase all) (kept count : ℕ) (told : 
     pub forced_only : Only (spelled all) (mem_log.may_leave new)
     forced_only c may = only_all f.run f.items c (subst (λ (s : LogState). MayLeave s c) log_forced may) ∙ ap spelled_all (sym (all_stand all plain))
 
--- pages of which one was written
-module _ (old new : MemPages) (page : ℕ) (image : List ℕ) (w : IsWrittenSince old new page image) where
-  abbrev since : List PageCall
-  since = new.calls.items
+-- pages of which one was written, with no call before
+module _ (images : List (List ℕ)) (old new : MemPages) (page : ℕ) (image : List ℕ) (n : AreNewPages old images) (w : IsWrittenSince old new page image) where
+  none_before : old.calls.items ≡ []
+  none_before = nil_from_length old.calls.items n.moment
+
+  was_fresh : fresh_pages old.first.items ≡ fresh_pages images
+  was_fresh = ap (pages_after old.first.items) (sym none_before) ∙ n.pages
+
+  one_call : new.calls.items ≡ Write page w.kept ∷ []
+  one_call = w.calls ∙ ap (λ cs. cs ++ Write page w.kept ∷ []) none_before
+
+  pub pages_written : pages_of new ≡ record (fresh_pages images) { since = (page, image) ∷ [] }
+  pages_written =
+      (λ i. pages_after (w.first i) (one_call i))
+      ∙ ap (λ (s : PageState). record s { since = (page, w.kept.value) ∷ [] }) was_fresh
+      ∙ ap (λ (y : List ℕ). record (fresh_pages images) { since = (page, y) ∷ [] }) w.value

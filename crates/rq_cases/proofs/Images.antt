@@ -5,7 +5,9 @@ use Rattle.byteorder.specs.Endian.{big_bytes, big_number}
 use Rattle.byteorder.specs.Numbers.{big_number-reads_back}
 use Rattle.rq_bytes.specs.Number.{bytes_at}
 use Rattle.rq_disk.specs.Memory.{if_no}
+use Rattle.rq_page.specs.declared.client.ClientSlot.{ClientSlot}
 use Rattle.rq_page.specs.Cells.{free_bytes}
+use Rattle.rq_page.specs.Clients.{client_bytes, client_front}
 use Rattle.rq_page.specs.Formatted.{superblock_bytes, superblock_front}
 use Rattle.rq_page.specs.Pages.{header_bytes, header_front, header_of, lsn_of, rest_of_header, slot_of, IsWritten}
 use Rattle.rq_page.specs.Sizes.{Sizes}
@@ -107,3 +109,7 @@ length-free = refl
 pub length-superblock : (z : Sizes) → length (superblock_bytes z) ≡ 256
 unfolding superblock_bytes superblock_front
 length-superblock z = refl
+
+pub length-client : (x : ClientSlot) → length (client_bytes x) ≡ 256
+unfolding client_bytes client_front
+length-client x = refl

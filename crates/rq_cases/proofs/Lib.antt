@@ -12,6 +12,7 @@ mod Checkpoints
 mod Courses
 mod Reading
 mod Formatting
+mod Grown
 pub mod Restarting
 mod Behind
 mod Audits

@@ -14,6 +14,7 @@ use Rattle.rq_store.specs.Opening.{IsLeft}
 use Rattle.rq_cases.specs.Store.{sizes}
 use Rattle.rq_cases.proofs.Pages.{range}
 use Rattle.rq_cases.specs.Migrations.{MigrationsAreJudged}
+use Rattle.rq_cases.proofs.Grown.{behind_is_another, behind_is_kept, midway_left, open_grown, shut_grown, untagged_pages}
 
 untold : (n : ℕ) (log : List Record) (images : Images) → 1 ≤ n → n ≤ 1024 → IsLeft sizes images log → IsLeft (with_tags n sizes) images log → ⊥
 untold n log images low high without with =
@@ -100,6 +101,10 @@ worked_migrations = record {
   unasked = λ a. a;
   untold = untold;
   unwritten = λ n p log images low high none left. no_bytes (kind_of (with_tags n sizes) p) p (lsn_of (images p)) (images p) none (left.fits.headers p low high);
-  reads_otherwise = λ n page old new past ne kept. ne (kept page past).0;
-  may_be_another = λ n page image old new past may none kept. none ((kept page past).1 image may);
+  open_behind_one = open_grown;
+  open_without_tag_pages = untagged_pages;
+  shut_behind_one = shut_grown;
+  midway_grown = midway_left;
+  written_behind = behind_is_another;
+  written_in_its_place = behind_is_kept;
 }

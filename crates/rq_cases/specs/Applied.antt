@@ -2,19 +2,21 @@
 -- may give.
 use Rattle.std.specs.Prelude.{◌≡◌, ◌≢◌, ◌<◌, ◌^◌, ℕ, List, [], Ok, slice_set, take, false, true}
 use Rattle.rq_model.specs.declared.refusal.Refusal.TheVariants as why
+use Rattle.rq_model.specs.declared.txn.Sub.{Sub}
 use Rattle.rq_model.specs.declared.txn.Txn.{Txn}
 use Rattle.rq_disk.specs.declared.mem_log.MemLog.{MemLog}
 use Rattle.rq_disk.specs.declared.mem_pages.MemPages.{MemPages}
 use Rattle.rq_log.specs.Spelled.{spelled}
 use Rattle.rq_page.specs.Pages.{lsn_of}
 use Rattle.rq_pool.specs.declared.Written.TheVariants.{Done, Nothing}
-use Rattle.rq_pool.specs.Pooled.{is_changed}
+use Rattle.rq_pool.specs.KeptUp.{IsKeptUp}
+use Rattle.rq_pool.specs.Pooled.{Pooled, image_at, is_changed}
 use Rattle.rq_pool.specs.Writing.{DeviceAfter}
 use Rattle.rq_sound.specs.Sound.{IsSound}
 use Rattle.rq_engine.specs.Applied.{Applied}
 use Rattle.rq_engine.specs.Crash.{AreFit}
 use Rattle.rq_engine.specs.KeptUp.{reads_pages}
-use Rattle.rq_engine.specs.Says.{PagesSay}
+use Rattle.rq_engine.specs.Says.{PagesSay, call_of}
 use Rattle.rq_engine.specs.Opened.{AreHonest, OpenStore}
 use Rattle.rq_engine.specs.declared.event.Event.{Event}
 use Rattle.rq_engine.specs.declared.event.Event.TheVariants as event
@@ -52,16 +54,29 @@ pub record CallsAreApplied : Type 0 where
       → Makes old e (reply.Refused why.Failed) new → ⊥
   pub answered_while_it_failed : (old new : OpenStore MemPages MemLog) → old.state.failed ≡ true
       → Makes old event.HandOver reply.HandedOver new → ⊥
-  pub refused_and_changed : (old new : OpenStore MemPages MemLog) (e : Event) → reads_pages e ≡ false → new ≢ old
+  pub refused_and_changed : (old new : OpenStore MemPages MemLog) (e : Event) → reads_pages (call_of e) ≡ false → new ≢ old
       → Makes old e (reply.Refused why.NoMemory) new → ⊥
   pub refused_by_a_test_and_changed : (old new : OpenStore MemPages MemLog) (t : Txn) → new ≢ old
       → Makes old (event.StartReceive t) (reply.Refused why.LogFull) new → ⊥
-  -- a start may write out a page whose last record is forced; it stays whole
-  pub evicted : (pages new : MemPages) (log : MemLog) (t : Txn) (r : Reply)
+  -- A start may write out a page whose last record is forced; it stays whole. It may write out more.
+  pub evicted : (pages new : MemPages) (log : MemLog) (t : Txn) (sub : Sub)
       → DeviceAfter mem_pages 2 (page_image 2 2 2 cells_1) pages new (Ok Done)
-      → PagesSay mem_pages (over forced pages log) (written_out pages new log) (event.StartReceive t) r
+      → PagesSay mem_pages (over forced pages log) (written_out pages new log) (event.StartReceive t) (reply.Started sub)
+  pub evicted_again : (forced : ℕ) (old mid new : Pooled MemPages) → IsKeptUp mem_pages forced old mid
+      → IsKeptUp mem_pages forced mid new → IsKeptUp mem_pages forced old new
   pub evicted_and_failed : (old new : OpenStore MemPages MemLog) (t : Txn) → new.state.failed ≡ false
       → Makes old (event.StartReceive t) (reply.Refused why.DiskWrite) new → ⊥
+  -- a device that failed is told of, and one that did not is not
+  pub failure_passed_over : (old new : OpenStore MemPages MemLog) (t : Txn) (sub : Sub)
+      → mem_pages.faults new.pages ≢ mem_pages.faults old.pages
+      → Makes old (event.StartReceive t) (reply.Started sub) new → ⊥
+  pub failure_made_up : (old new : OpenStore MemPages MemLog) (t : Txn)
+      → mem_pages.faults old.pages < 2 ^ 64 → mem_pages.faults new.pages ≡ mem_pages.faults old.pages
+      → Makes old (event.StartReceive t) (reply.Refused why.DiskRead) new → ⊥
+  pub change_forgotten : (old new : OpenStore MemPages MemLog) (t : Txn) (r : Reply) (page : ℕ)
+      → is_changed old.changed page ≡ true → is_changed new.changed page ≡ false
+      → old.state.forced < lsn_of (image_at old.state.images page)
+      → Makes old (event.StartReceive t) r new → ⊥
   pub page_marked : (old new : OpenStore MemPages MemLog) (t : Txn) (r : Reply) (page : ℕ)
       → is_changed old.changed page ≡ false → is_changed new.changed page ≡ true
       → Makes old (event.StartReceive t) r new → ⊥

@@ -13,12 +13,18 @@ use Rattle.rq_model.specs.Tests.{size_at}
 use Rattle.rq_model.specs.Worked.{committed_once, failed_force, hello, sent_once, small, txn}
 use Rattle.rq_model.specs.WorkedMarks.{untagged}
 use Rattle.rq_disk.specs.Device.{Images}
+use Rattle.rq_disk.specs.declared.mem_log.MemLog.{MemLog}
 use Rattle.rq_disk.specs.declared.mem_pages.MemPages.{MemPages}
 use Rattle.rq_page.specs.Sizes.{page_count, with_tags}
 use Rattle.rq_store.specs.Opening.{IsLeft}
+use Rattle.rq_sound.specs.Calls.{failed}
 use Rattle.rq_engine.specs.Migration.{KeepsBeyond}
 use Rattle.rq_core.specs.Devices.{mem_pages}
-use Rattle.rq_cases.specs.Store.{sizes}
+use Rattle.rq_core.specs.Worked.{first_entries}
+use Rattle.rq_cases.specs.Checkpoints.{based_log, behind, midway}
+use Rattle.rq_cases.specs.Opened.{AreNewPages, IsWrittenSince, over}
+use Rattle.rq_cases.specs.Store.{formatted_pages, grown_pages, sizes}
+use Rattle.rq_cases.specs.Worlds.{Hold, Opens, Shuts}
 
 -- one commit, and one tag page more
 abbrev migrated : List Entry
@@ -35,6 +41,10 @@ filled = Restarted 1 (2 ^ 50) ∷ []
 -- and the store is opened again
 abbrev opened : List Entry
 opened = Restarted 2 7 ∷ Grew 1 6 ∷ migrated
+
+-- the store that was just opened gets a tag page
+abbrev pub was_migrated : List Entry
+was_migrated = Migrated 1 2 ∷ first_entries 1
 
 pub record MigrationsAreJudged : Type 0 where
   pub answered : IsLegal untagged migrated
@@ -113,8 +123,17 @@ pub record MigrationsAreJudged : Type 0 where
       → IsLeft (with_tags n sizes) images log → ⊥
   pub unwritten : (n p : ℕ) (log : List Record) (images : Images) → 1 ≤ p → p < page_count (with_tags n sizes) → images p ≡ []
       → IsLeft (with_tags n sizes) images log → ⊥
-  -- pages behind the tag pages that were written to: one that reads otherwise, and one of which a crash may leave something else
-  pub reads_otherwise : (n page : ℕ) (old new : MemPages) → page_count (with_tags n sizes) ≤ page
-      → mem_pages.seen new page ≢ mem_pages.seen old page → KeepsBeyond mem_pages n sizes old new → ⊥
-  pub may_be_another : (n page : ℕ) (image : List ℕ) (old new : MemPages) → page_count (with_tags n sizes) ≤ page
-      → mem_pages.may_be new page image → (mem_pages.may_be old page image → ⊥) → KeepsBeyond mem_pages n sizes old new → ⊥
+  -- Stores behind a migration, and in the midst of one: over the store that was just opened, with devices in memory.
+  pub open_behind_one : (pages : MemPages) (log : MemLog) → Hold pages grown_pages log based_log
+      → Opens sizes was_migrated (over (failed behind) pages log)
+  pub open_without_tag_pages : (pages : MemPages) (log : MemLog) → Hold pages formatted_pages log based_log
+      → Opens sizes was_migrated (over (failed behind) pages log) → ⊥
+  pub shut_behind_one : (pages : MemPages) (log : MemLog) → Hold pages grown_pages log based_log
+      → Shuts (Grew 1 2 ∷ was_migrated) pages log
+  pub midway_grown : (pages : MemPages) (log : MemLog) → Hold pages grown_pages log based_log
+      → Opens sizes (Refused (Migrate 1) DiskWrite ∷ first_entries 1) (midway pages log)
+  -- a page is written behind the tag page, or in its place
+  pub written_behind : (old new : MemPages) (image : List ℕ) → image ≢ [] → AreNewPages old grown_pages
+      → IsWrittenSince old new 4 image → KeepsBeyond mem_pages 1 sizes old new → ⊥
+  pub written_in_its_place : (old new : MemPages) (image : List ℕ) → AreNewPages old grown_pages
+      → IsWrittenSince old new 3 image → KeepsBeyond mem_pages 1 sizes old new

@@ -7,7 +7,7 @@ use Rattle.rq_page.specs.Cells.{cell_bytes, free_bytes}
 use Rattle.rq_page.specs.Directories.{directory_bytes, new_directory}
 use Rattle.rq_page.specs.Formatted.{formatted_slot}
 use Rattle.rq_page.specs.Pages.{header_bytes}
-use Rattle.rq_page.specs.Sizes.{Sizes}
+use Rattle.rq_page.specs.Sizes.{Sizes, with_tags}
 use Rattle.rq_views.specs.Chain.{directory_appended}
 use Rattle.rq_views.specs.Plans.{directory_head_unlinked}
 use Rattle.rq_views.specs.WorkedItems.{cell}
@@ -21,6 +21,10 @@ sizes = record { directory = 1; cells = 1; tags = 0 }
 -- what a history of it may hold: no client, as it has no tag page
 abbrev pub small : Size
 small = size_of sizes
+
+-- the same with a tag page, which is for 15 clients
+abbrev pub tagged : Sizes
+tagged = with_tags 1 sizes
 
 -- a page's header, and behind it its slots
 abbrev pub part : ℕ → ℕ → ℕ → (ℕ → List ℕ) → ℕ → List ℕ
@@ -141,6 +145,12 @@ groups_closed = written 1 (group one_closed) groups_0
 -- the pages: formatted, as a send leaves them after each of its two writes, and as a receive does
 abbrev pub formatted_pages : List (List ℕ)
 formatted_pages = pages_with 0 groups_0 0 cells_0
+
+-- and formatted with the tag page
+abbrev pub grown_pages : List (List ℕ)
+grown_pages =
+    page_image 0 0 0 (formatted_slot tagged 0) ∷ page_image 0 1 1 (formatted_slot tagged 1)
+    ∷ page_image 0 2 2 (formatted_slot tagged 2) ∷ page_image 0 3 3 (formatted_slot tagged 3) ∷ []
 
 abbrev pub filled_pages : List (List ℕ)
 filled_pages = pages_with 0 groups_0 2 cells_1

@@ -28,6 +28,7 @@ pub fn devices_are_judged()
 pub fn histories_go_on()
     ensures { HistoriesGoOn }
 {
+    checkpoint_crash_goes_on();
     growth_goes_on();
     restart_goes_on();
     shut_crash_goes_on();

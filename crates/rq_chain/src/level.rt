@@ -8,13 +8,16 @@ ghost use Rattle.rq_level.specs.ChainPlans.{CanSend, IsSent, RefusesTaking, CanR
 ghost use Rattle.rq_level.specs.declared.writes.Plan.{Plan};
 ghost use Rattle.rq_chain.specs.Refusing.{NoCell};
 
+use crate::answers::answer;
 use crate::cells::FreeCells;
 use crate::doing::{Doing, read_doing};
 use crate::given::{SENT_LIMIT, beside_given, cell_given, group_given, head_of, tail_of};
 use crate::plans::{append, put_back, set_closed, unlink_head, unlink_tail};
 use crate::wants::{body_in, next_in, prev_in, sequence_in, tag_in, wanted};
 use byteorder::{BigEndian, ByteOrder};
-use rq_level::{Gist, Level, Op, PageSet, Plan, Replies, SlotWrite, Slots, Want, redo_page};
+use rq_level::{
+    Gist, Level, Op, Outcome, PageSet, Plan, Replies, SlotWrite, Slots, Want, redo_page,
+};
 use rq_model::message::Body;
 use rq_model::record::{Deed, DeedBytes, Record, Slot};
 use rq_model::refusal::{Damage, NoMemory, Refusal};
@@ -319,6 +322,10 @@ impl Level for ChainLevel {
 
     fn reads(&self, deed: &[u8]) -> bool {
         decode_deed(deed).is_some()
+    }
+
+    fn outcome(&self, deed: &[u8]) -> Option<Outcome> {
+        answer(deed)
     }
 
     fn keeps(&self) -> bool {

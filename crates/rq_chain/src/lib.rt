@@ -4,6 +4,7 @@
 //! last. An operation is planned whole from the slots as they are, and its writes are made one at a time.
 #![tactic(auto, unfolding(rq_level::specs::Meaning::meaning_of))]
 
+mod answers;
 mod cells;
 mod doing;
 mod given;

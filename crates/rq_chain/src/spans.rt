@@ -1,5 +1,5 @@
 //! Which slots of a chain operations ask for, by their first bytes alone.
-ghost use Rattle.std.specs.Prelude.{◌≡◌, ◌≤◌, cond, nat_eq, None, Some, drop, length};
+ghost use Rattle.std.specs.Prelude.{◌≡◌, ◌+◌, ◌≤◌, cond, nat_eq, None, Some, drop, length};
 ghost use Rattle.byteorder.specs.Endian.{big_number};
 ghost use Rattle.rq_model.specs.Deeds.{deed_in};
 ghost use Rattle.rq_level.specs.Ops.{doing_in};
@@ -63,14 +63,14 @@ fn span_of_deed(bytes: &[u8]) -> Option<Span>
 {
     match bytes {
         [1, fields @ ..] => {
-            if fields.len() < 28 || fields.len() > 28 + BODY_LIMIT || sequence_in(fields) == 0 {
+            if fields.len() < 28 || fields.len() > 28 + BODY_LIMIT || number_at(fields, 4) == 0 {
                 None
             } else {
                 Some(span_at(fields, Reach::TailAndPrevious))
             }
         }
         [2, fields @ ..] => {
-            if fields.len() < 20 || fields.len() > 20 + BODY_LIMIT || sequence_in(fields) == 0 {
+            if fields.len() < 20 || fields.len() > 20 + BODY_LIMIT || number_at(fields, 4) == 0 {
                 None
             } else {
                 Some(span_at(fields, Reach::Head))
@@ -104,10 +104,10 @@ fn span_at(fields: &[u8], reach: Reach) -> Span
     }
 }
 
-// The sequence in the fields of a deed.
-fn sequence_in(fields: &[u8]) -> u64
-    requires { 12 ≤ length fields.now }
-    ensures { result ≡ big_number 8 (drop 4 fields.now) }
+/// A number of the fields of a deed.
+pub(crate) fn number_at(fields: &[u8], at: usize) -> u64
+    requires { at + 8 ≤ length fields.now }
+    ensures { result ≡ big_number 8 (drop at fields.now) }
 {
-    BigEndian::read_u64(&fields[4..])
+    BigEndian::read_u64(&fields[at..])
 }

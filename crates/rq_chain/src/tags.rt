@@ -1,9 +1,10 @@
 //! The tags of clients as a level of recovery.
-ghost use Rattle.std.specs.Prelude.{◌≡◌, cond, None, Some};
-ghost use Rattle.rq_model.specs.Deeds.{deed_by};
+ghost use Rattle.std.specs.Prelude.{◌≡◌, ◌≤◌, cond, None, Some, option_map};
+ghost use Rattle.rq_model.specs.Deeds.{deed_by, mark_in};
+ghost use Rattle.rq_level.specs.Writes.{answer_of};
 ghost use Rattle.rq_level.specs.Given.{AreGiven};
 ghost use Rattle.rq_level.specs.LevelState.{LevelState, nothing_kept};
-ghost use Rattle.rq_level.specs.Ops.{tagging_by};
+ghost use Rattle.rq_level.specs.Ops.{tagging_by, tagging_in};
 ghost use Rattle.rq_level.specs.TagPlans.{UndoesTag, client_marked, client_to_mark, tag_note, tag_wants};
 ghost use Rattle.rq_chain.specs.Doings.{told_tagging};
 
@@ -11,7 +12,8 @@ use crate::doing::{Tagging, read_tagging};
 use crate::level::told_layout;
 use crate::marks::{marked, unmarked};
 use crate::wants::slot_wanted;
-use rq_level::{Level, Op, PageSet, Plan, SlotWrite, Slots, Want, redo_page};
+use byteorder::{BigEndian, ByteOrder};
+use rq_level::{Level, Op, Outcome, PageSet, Plan, SlotWrite, Slots, Want, redo_page};
 use rq_model::record::{Deed, Record, Slot};
 use rq_model::refusal::{Damage, Refusal};
 use rq_model::txn::Lsn;
@@ -80,6 +82,10 @@ impl Level for TagLevel {
         decode_mark(deed).is_some()
     }
 
+    fn outcome(&self, deed: &[u8]) -> Option<Outcome> {
+        answer(deed)
+    }
+
     fn keeps(&self) -> bool {
         false
     }
@@ -138,6 +144,22 @@ impl Level for TagLevel {
     }
 }
 
+// What the end of a mark answers whose deed these bytes are; none where they are none.
+fn answer(deed: &[u8]) -> Option<Outcome>
+    ensures { result ≡ option_map answer_of (mark_in deed.now) }
+{
+    match deed {
+        [1, fields @ ..] => {
+            if fields.len() == 20 {
+                Some(Outcome::Marked)
+            } else {
+                None
+            }
+        }
+        _ => None,
+    }
+}
+
 // What an operation asks the level of tags for; none where it asks it for nothing.
 fn tagging_of(op: &Op) -> Option<Tagging>
     ensures { told_tagging result ≡ tagging_by op.now.level op.now.bytes }
@@ -154,33 +176,30 @@ fn client_of(op: &Op) -> Option<u32>
     ensures { result ≡ cond op.now.undo (client_marked (deed_by op.now.level op.now.bytes))
         (client_to_mark (tagging_by op.now.level op.now.bytes)) }
 {
-    if op.is_undo() {
-        client_of_deed(&decode_told(op.level(), op.bytes()))
+    if op.level() != 2 {
+        None
+    } else if op.is_undo() {
+        client_in(op.bytes(), 20)
     } else {
-        client_of_tagging(&tagging_of(op))
+        client_in(op.bytes(), 12)
     }
 }
 
-// The client whose mark a deed tells.
-fn client_of_deed(deed: &Option<Deed>) -> Option<u32>
-    ensures { result ≡ client_marked deed.now }
+// The client of a mark, by its kind and client alone; none where that has not so many bytes of fields.
+fn client_in(bytes: &[u8], length: usize) -> Option<u32>
+    requires { 4 ≤ length }
+    ensures deed { length ≡ 20 → result ≡ client_marked (mark_in bytes.now) }
+    ensures asked { length ≡ 12 → result ≡ client_to_mark (tagging_in bytes.now) }
 {
-    match deed {
-        None => None,
-        Some(Deed::Append { .. }) => None,
-        Some(Deed::UnlinkHead { .. }) => None,
-        Some(Deed::Close { .. }) => None,
-        Some(Deed::Mark { client, .. }) => Some(*client),
-    }
-}
-
-// The client that something is to be marked for.
-fn client_of_tagging(tagging: &Option<Tagging>) -> Option<u32>
-    ensures { result ≡ client_to_mark (told_tagging tagging.now) }
-{
-    match tagging {
-        None => None,
-        Some(tagging) => Some(tagging.client),
+    match bytes {
+        [1, fields @ ..] => {
+            if fields.len() == length {
+                Some(BigEndian::read_u32(fields))
+            } else {
+                None
+            }
+        }
+        _ => None,
     }
 }
 

@@ -7,7 +7,7 @@ use Rattle.rq_model.specs.History.{Call, Entry}
 use Rattle.rq_model.specs.History.Entry.{Refused as Refused_entry}
 use Rattle.rq_model.specs.History.Call.{Begin, Start_send, Start_receive, Start_receive_from, Start_close, Start_mark, Step, Finish, Commit, Acknowledge, Start_abort, Undo_next, End_abort, Hand_over, Force, Checkpoint, Migrate, Write_page, Last_tag, Client_tag, Show}
 use Rattle.rq_model.specs.Growth.{Growth, IsGrownBy, IsOfMigration, MayBeCutOff, MayStand, growth, growth_by, refused_growth}
-use Rattle.rq_model.specs.Growth.Growth.{Grows, May_grow, May_stand, Stays}
+use Rattle.rq_model.specs.Growth.Growth.{Grows, May_grow, May_base, Stays}
 use Rattle.rq_model.specs.Ledger.{Ledger, Phase, after, ledger, runs}
 use Rattle.rq_model.specs.Ledger.Phase.{Stopped}
 use Rattle.rq_model.specs.Tests.{log_full}
@@ -52,7 +52,7 @@ based_by g k s images bytes may (inr c) = inr (may, c)
 tagged_failed : (g : Growth) (n : ℕ) (s : State) (images : Images) (bytes : List ℕ) → IsCutTagged g n s images bytes → IsCutTagged g n (record s { failed = true }) images bytes
 tagged_failed (Grows pages) n s images bytes c = (c.0, grown_failed n s images bytes c.1)
 tagged_failed Stays n s images bytes c = grown_failed n (checkpointed s) images bytes c
-tagged_failed May_stand n s images bytes c = grown_failed n (checkpointed s) images bytes c
+tagged_failed May_base n s images bytes c = grown_failed n (checkpointed s) images bytes c
 tagged_failed (May_grow pages) n s images bytes c = grown_failed n (checkpointed s) images bytes c
 
 by_failed : (g : Growth) (k : Ledger) (tags : Option ℕ) (s : State) (images : Images) (bytes : List ℕ) → IsCutBy g k tags s images bytes → IsCutBy g k tags (record s { failed = true }) images bytes
@@ -180,7 +180,7 @@ module _ {P L : Type 0} (p : page_device.Ghosts P) (l : log_device.Ghosts L) (z 
           subst (λ (y : Entry). IsGrownBy (growth_by y (growth h)) None) (sym is) tt,
           subst (λ (y : Entry). IsGrownBy (growth_by y (growth h)) None) (sym is) tt,
           subst (λ (y : Entry). IsCutBy (growth_by y (growth h)) (after y (ledger h)) None (on past old.state) images bytes) (sym is)
-              (based_by May_stand (record (ledger h) { phase = Stopped }) (on past old.state) images bytes (stands May_stand Stopped n.0.could tt) (leaves images bytes a b)),
+              (based_by May_base (record (ledger h) { phase = Stopped }) (on past old.state) images bytes (stands May_base Stopped n.0.could tt) (leaves images bytes a b)),
         )))
     not_made why.Failed is n leaves w = inl (unchanged (ap (λ (y : Entry). growth_by y (growth h)) is) n.1 w)
     not_made why.NotQuiet is n leaves w = inl (unchanged (ap (λ (y : Entry). growth_by y (growth h)) is) n.2 w)

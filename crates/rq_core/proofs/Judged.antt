@@ -70,11 +70,11 @@ module _ (s : State) where
   starts_none : (c : Call) → starts (size_of s.sizes) (ledger_of s) c ≡ false → LegalRefusal (size_of s.sizes) (ledger_of s) c why.Latched → IsLatched s c
   starts_none c none legal = absurd (true≢false (sym legal.1 ∙ none))
 
-  by_latches : (e : Event) → LegalRefusal (size_of s.sizes) (ledger_of s) (call_of e) why.Latched → LatchedSay s e (reply.Refused why.Latched) → IsLatched s (call_of e)
+  by_latches : (e : Event) → LegalRefusal (size_of s.sizes) (ledger_of s) (call_of e) why.Latched → LatchedSay (Unit {0}) s e (reply.Refused why.Latched) → IsLatched s (call_of e)
   by_latches event.Begin legal say = starts_none (call_of event.Begin) refl legal
-  by_latches (event.StartSend txn sender tag body) legal say = say
-  by_latches (event.StartReceive txn) legal say = say
-  by_latches (event.StartReceiveFrom txn sender) legal say = say
+  by_latches (event.StartSend txn sender tag body) legal say = say tt
+  by_latches (event.StartReceive txn) legal say = say tt
+  by_latches (event.StartReceiveFrom txn sender) legal say = say tt
   by_latches (event.StartClose txn sender) legal say = say
   by_latches (event.StartMark txn client tag) legal say = say
   by_latches (event.Step sub) legal say = starts_none (call_of (event.Step sub)) refl legal
@@ -82,7 +82,7 @@ module _ (s : State) where
   by_latches (event.Commit txn) legal say = starts_none (call_of (event.Commit txn)) refl legal
   by_latches (event.Acknowledged number) legal say = starts_none (call_of (event.Acknowledged number)) refl legal
   by_latches (event.StartAbort txn) legal say = starts_none (call_of (event.StartAbort txn)) refl legal
-  by_latches (event.UndoNext txn) legal say = say
+  by_latches (event.UndoNext txn) legal say = say tt
   by_latches (event.EndAbort txn) legal say = starts_none (call_of (event.EndAbort txn)) refl legal
   by_latches event.HandOver legal say = starts_none (call_of event.HandOver) refl legal
   by_latches event.Force legal say = starts_none (call_of event.Force) refl legal
@@ -133,7 +133,7 @@ module _ (size_once : OneSizeEach) (met : (z : Sizes) (course : Course) (w : Mem
         let s = b.steps (tt, tt) past long sound in
         let legal : LegalRefusal (size_of old.state.sizes) (ledger_of (on past old.state)) (call_of a.event) why.Latched = subst (Legal (size_of old.state.sizes) (ledger_of (on past old.state))) s.says s.legal in
         let is : call_of a.event ≡ call = ap (λ o. call_in o call) (sym a.call_is) in
-        subst (IsLatched (on past old.state)) is (by_latches (on past old.state) a.event legal (b.latched tt past long sound))
+        subst (IsLatched (on past old.state)) is (by_latches (on past old.state) a.event legal (b.latched past long sound))
 
   refused : (pages new_pages : MemPages) (log new_log : MemLog) (r : Refusal) → Led z course (Is_shut pages log) → IsRefused pages log r new_pages new_log → IsRefusedOver pages log r new_pages new_log
   refused pages new_pages log new_log r led stopped =

@@ -14,11 +14,11 @@ use Rattle.rq_model.specs.Ledger.Phase.{Shut}
 use Rattle.rq_model.specs.Legal.{Legal, IsLegal}
 use Rattle.rq_model.specs.Tests.{any_busy, bad_tags, size_at, with_clients}
 use Rattle.rq_model.specs.Rules.{KeepsRules}
-use Rattle.rq_model.specs.Growth.{Growth, IsGrownBy, IsOfMigration, MayStand, growth, records_grown}
-use Rattle.rq_model.specs.Growth.Growth.{Grows, May_grow, May_stand, Stays}
+use Rattle.rq_model.specs.Growth.{Growth, IsGrownBy, IsOfMigration, MayStand, growth}
+use Rattle.rq_model.specs.Growth.Growth.{Grows, May_grow, May_base, Stays}
 use Rattle.rq_model.proofs.Follows.{follows, none_told, shut_told}
 use Rattle.rq_model.proofs.Replayed.{never_break, size_stays}
-use Rattle.rq_model.specs.Promises.{CheckpointCrashGoesOn, CrashGoesOn, GrowthGoesOn, ShutCrashGoesOn, RestartGoesOn, EndsBy, EndsInCrash, crash_with, AcknowledgedStay, FifoThroughout}
+use Rattle.rq_model.specs.Promises.{CheckpointCrashGoesOn, CrashGoesOn, GrowthGoesOn, ShutCrashGoesOn, RestartGoesOn, EndsBy, EndsInCrash, crash_with, log_grown, AcknowledgedStay, FifoThroughout}
 use Rattle.rq_disk.specs.Device.{Images, Leaves}
 use Rattle.rq_disk.specs.declared.device.LogDevice as log_device
 use Rattle.rq_disk.specs.declared.device.PageDevice as page_device
@@ -126,48 +126,30 @@ stands_at z h s legal sizes at sound = record {
 with_range : (n : ℕ) (z : Sizes) → n ≤ 1024 → IsInRange z → IsInRange (with_tags n z)
 with_range n z most r = record { directory_low = r.directory_low; directory_high = r.directory_high; cells_low = r.cells_low; cells_high = r.cells_high; tags_high = most }
 
--- What is left with the tag pages, where nothing is lost: a log of so many records, with these commits.
-record IsAllLeft (y : Sizes) (many : ℕ) (k : Ledger) (images : Images) (bytes : List ℕ) : Type 0 where
-  now : List Record
+-- what is left with the tag pages, where nothing of this log is lost
+record IsAllLeft (y : Sizes) (now : List Record) (images : Images) (bytes : List ℕ) : Type 0 where
   left : IsLeft y images now
   are_spelled : AreSpelled now
   ends : EndsWith now bytes
-  many_are : length now ≡ many
-  committed : k.committed ≡ committed_of now
-  begun : k.incarnation ≤ incarnation_of now
 
 -- the cut of a store whose records are all forced loses none of them
-all_left : (y : Sizes) (t : State) (many : ℕ) (k : Ledger) (images : Images) (bytes : List ℕ) → t.forced ≡ length t.records → length t.records ≡ many → k.committed ≡ committed_of t.records → k.incarnation ≤ incarnation_of t.records → IsCut (record t { sizes = y }) images bytes
-    → IsAllLeft y many k images bytes
-all_left y t many k images bytes all are committed begun c =
+all_left : (y : Sizes) (t : State) (images : Images) (bytes : List ℕ) → t.forced ≡ length t.records → IsCut (record t { sizes = y }) images bytes → IsAllLeft y t.records images bytes
+all_left y t images bytes all c =
     let within = c.forced in
     let lost : c.lost ≡ 0 = omega (arith, within, all) in
     let same : drop c.lost t.records ≡ t.records = ap (λ (n : ℕ). drop n t.records) lost in
-    record {
-      now = t.records;
-      left = subst (IsLeft y images) same c.store;
-      are_spelled = subst AreSpelled same c.told;
-      ends = subst (λ (rs : List Record). EndsWith rs bytes) same c.spells;
-      many_are = are;
-      committed = committed;
-      begun = begun;
-    }
+    record { left = subst (IsLeft y images) same c.store; are_spelled = subst AreSpelled same c.told; ends = subst (λ (rs : List Record). EndsWith rs bytes) same c.spells }
 
 -- one record for all
-one_for_all : (z : Sizes) (h : List Entry) (s : State) (n : ℕ) → StandsAt z h s → (images : Images) (bytes : List ℕ) → IsCutGrown n (checkpointed s) images bytes → IsAllLeft (with_tags n s.sizes) ((ledger h).records + 1) (ledger h) images bytes
-one_for_all z h s n k images bytes c =
-    let i = k.incarnation in
-    let m = k.records in
-    all_left (with_tags n s.sizes) (checkpointed s) ((ledger h).records + 1) (ledger h) images bytes (omega arith) (omega (arith, m)) (sym k.committed) (omega (arith, i)) c
+one_for_all : (s : State) (n : ℕ) → incarnation_of s.records ≡ s.incarnation → (images : Images) (bytes : List ℕ) → IsCutGrown n (checkpointed s) images bytes → IsAllLeft (with_tags n s.sizes) (based (incarnation_of s.records) s.records) images bytes
+one_for_all s n begun images bytes c =
+    subst (λ (i : ℕ). IsAllLeft (with_tags n s.sizes) (based i s.records) images bytes) (sym begun) (all_left (with_tags n s.sizes) (checkpointed s) images bytes (omega arith) c)
 
-tagged_left : (z : Sizes) (h : List Entry) (s : State) (n : ℕ) (g : Growth) → StandsAt z h s → (images : Images) (bytes : List ℕ) → IsCutTagged g n s images bytes → IsAllLeft (with_tags n s.sizes) (records_grown g (ledger h)) (ledger h) images bytes
-tagged_left z h s n (Grows pages) k images bytes c =
-    let i = k.incarnation in
-    let j = k.begun in
-    all_left (with_tags n s.sizes) s (ledger h).records (ledger h) images bytes c.0 k.records (sym k.committed) (omega (arith, i, j)) c.1
-tagged_left z h s n Stays k images bytes c = one_for_all z h s n k images bytes c
-tagged_left z h s n May_stand k images bytes c = one_for_all z h s n k images bytes c
-tagged_left z h s n (May_grow pages) k images bytes c = one_for_all z h s n k images bytes c
+tagged_left : (s : State) (n : ℕ) (g : Growth) → incarnation_of s.records ≡ s.incarnation → (images : Images) (bytes : List ℕ) → IsCutTagged g n s images bytes → IsAllLeft (with_tags n s.sizes) (log_grown g s.records) images bytes
+tagged_left s n (Grows pages) begun images bytes c = all_left (with_tags n s.sizes) s images bytes c.0 c.1
+tagged_left s n Stays begun images bytes c = one_for_all s n begun images bytes c
+tagged_left s n May_base begun images bytes c = one_for_all s n begun images bytes c
+tagged_left s n (May_grow pages) begun images bytes c = one_for_all s n begun images bytes c
 
 module _ {P L : Type 0} (p : page_device.Ghosts P) (l : log_device.Ghosts L) (honest_p : (d : P) → p.honest d) (honest_l : (d : L) → l.honest d) (z : Sizes) where
   abbrev Ran_to : Course → World P L → Type 0
@@ -247,14 +229,14 @@ module _ {P L : Type 0} (p : page_device.Ghosts P) (l : log_device.Ghosts L) (ho
     -- the tag pages of a migration stand over all records
     tagged_told : GrowthGoesOn (size_of z) → ((ledger h).phase ≡ Shut → ⊥) → (n : ℕ) → IsOfMigration (growth h) (ledger h) n → s.rows ≡ [] → MayGetTags n s → (images : Images) (bytes : List ℕ) → IsCutTagged (growth h) n s images bytes → Ends_at (Some n) h images bytes
     tagged_told law not_closed n of none may images bytes c =
-        let a = tagged_left z h s n (growth h) k images bytes c in
-        let sizes : with_tags n s.sizes ≡ with_tags n (sizes_at z h) = ap (with_tags n) k.sizes in
-        let left : IsLeft (with_tags n (sizes_at z h)) images a.now = subst (λ y. IsLeft y images a.now) sizes a.left in (
-          a.now,
-          record { range = subst IsInRange sizes (with_range n s.sizes (may_get s.sizes n may).2 k.range); are_spelled = a.are_spelled; is = a.ends; left = left },
-          law h n a.now k.legal
-              (record { tags = subst (λ y. bad_tags y n ≡ false) (ap size_of k.sizes ∙ size_is z h) may; none_open = sym k.open_ones ∙ ap (open_ones_of s.ends) none; not_shut = not_closed }, of, a.many_are)
-              (record { committed = a.committed; records = refl; incarnation = a.begun }) left.whole.rules,
+        let now : List Record = log_grown (growth h) s.records in
+        let a = tagged_left s n (growth h) k.begun images bytes c in
+        let sizes : with_tags n s.sizes ≡ with_tags n (sizes_at z h) = ap (with_tags n) k.sizes in (
+          now,
+          record { range = subst IsInRange sizes (with_range n s.sizes (may_get s.sizes n may).2 k.range); are_spelled = a.are_spelled; is = a.ends; left = subst (λ y. IsLeft y images now) sizes a.left },
+          law h n s.records k.legal
+              (record { tags = subst (λ y. bad_tags y n ≡ false) (ap size_of k.sizes ∙ size_is z h) may; none_open = sym k.open_ones ∙ ap (open_ones_of s.ends) none; not_shut = not_closed })
+              of ties k.rules,
         )
 
   -- by whether tag pages are left that it had not

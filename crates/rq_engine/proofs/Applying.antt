@@ -31,7 +31,7 @@ use Rattle.rq_engine.proofs.UnknownStay.{base_stays}
 
 module _ {P L : Type 0} (p : page_device.Ghosts P) (l : log_device.Ghosts L) (old new : OpenStore P L) where
   -- what a checkpoint leaves that was refused
-  pub not_leaves : (e : Event) (r : Refusal) → reads_pages e ≡ false → writes_out (call_of e) ≡ true → NotCheckpointed p l old new r → RefusalLeaves old e (reply.Refused r) new
+  pub not_leaves : (e : Event) (r : Refusal) → reads_pages (call_of e) ≡ false → writes_out (call_of e) ≡ true → NotCheckpointed p l old new r → RefusalLeaves old e (reply.Refused r) new
   not_leaves e why.Failed reads writes n = rw reads n.1
   not_leaves e why.NotQuiet reads writes n = rw reads n.2
   not_leaves e why.LogFull reads writes n = rw reads n.3
@@ -82,7 +82,7 @@ module _ {P L : Type 0} (p : page_device.Ghosts P) (l : log_device.Ghosts L) (on
     (old new : OpenStore P L) (x : List Record) (told : IsOnDevice old.state) (long : IsEarlier x old.state) (k : IsSound (on x old.state)) (fit : AreFit p (over x old)) where
   -- the pages fit afterwards
   pub fit_after : (old.state.failed ≡ false → old.replacing ≡ false) → AreHonest p l new → (e : Event) (r : Reply) → StaysWhole e new → CheckpointSays p l old e r new → KeepsOrBased p l old e new → new.state.sizes ≡ old.state.sizes
-      → OnRead (reads_pages e) (p.honest new.pages) (ListsSay old.state e r new.state) → BegunSay old e r new → RefusalLeaves old e r new → IsModelStep (on x old.state) (call_of e) (gave r) (on x new.state) → WritesSay old e r → PagesSay p old new e r → AreFit p (over x new)
+      → OnRead (reads_pages (call_of e)) (p.honest new.pages) (ListsSay old.state e r new.state) → BegunSay old e r new → RefusalLeaves old e r new → IsModelStep (on x old.state) (call_of e) (gave r) (on x new.state) → WritesSay old e r → PagesSay p old new e r → AreFit p (over x new)
   fit_after untried h event.Checkpoint r whole says keeps sizes lists begun refused steps when pages = (keeps (untried (ran_before p l old new r says whole)) h x long k fit).fit whole
   fit_after untried h (event.Migrate n) r whole says keeps sizes lists begun refused steps when pages = subst (λ (o : OpenStore P L). AreFit p (over x o)) (sym (as_before p l old new n r says whole)) fit
   fit_after untried h e r whole says keeps sizes lists begun refused steps when pages =

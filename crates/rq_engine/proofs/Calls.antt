@@ -8,6 +8,7 @@ use Rattle.rq_model.specs.Deeds.{TellsItself}
 use Rattle.rq_model.specs.declared.txn.Txn.{Txn}
 use Rattle.rq_model.specs.declared.txn.Sub.{Sub}
 use Rattle.rq_model.specs.declared.record.Deed.{Deed}
+use Rattle.rq_model.specs.declared.record.Deed.TheVariants.{Append, UnlinkHead, Close, Mark}
 use Rattle.rq_model.specs.declared.record.Record.{Record}
 use Rattle.rq_model.specs.declared.record.Record.TheVariants as records
 use Rattle.rq_model.specs.declared.refusal.Refusal.{Refusal}
@@ -23,7 +24,7 @@ use Rattle.rq_model.specs.Tests.{has_under, is_aborting, steps_left, log_full, t
 use Rattle.rq_model.specs.Replay.Reply.{Gave_lsn, Gave_commit, Gave_ready, Gave_client_tag, Gave_content, Gave_tag}
 use Rattle.rq_page.specs.Sizes.{Sizes, client_count, sender_count}
 use Rattle.rq_level.specs.declared.writes.SlotWrite.{SlotWrite}
-use Rattle.rq_level.specs.Writes.{IsSlotWrite, AreSlotWrites}
+use Rattle.rq_level.specs.Writes.{IsSlotWrite, AreSlotWrites, answer_of}
 use Rattle.rq_txn.specs.declared.Finished.{Finished}
 use Rattle.rq_txn.specs.declared.Aim.{Aim}
 use Rattle.rq_txn.specs.declared.Aim.TheVariants.{Doing}
@@ -51,6 +52,7 @@ use Rattle.rq_engine.proofs.Standing.{going_at, step_steps, finish_steps, commit
 use Rattle.rq_engine.specs.Earlier.{on}
 use Rattle.rq_engine.specs.Invariant.{EndFits, IsConsistent, end_bytes, end_of, room_one, room_of}
 use Rattle.rq_engine.proofs.Waits.{AreDeedsOf, waits-with_sends, waits-without_taken}
+use Rattle.rq_engine.specs.Says.{outcome_of}
 use Rattle.rq_engine.specs.Answers.{Refuses, OnUnder, IsUnderWay, IsNotUnderWay, NotFound, IsOther, Idle, CannotFinish, IsMade, HasNothingUnderWay}
 use Rattle.rq_engine.proofs.Keeping.{kept_at, under_at, kept_stepped, kept_finished, kept_undone, kept_committed}
 use Rattle.rq_engine.proofs.Refusals.{refuse, refuse_failed, found_of, found_some, found_none, not_full}
@@ -254,6 +256,13 @@ pub step_idle : (s : State) (sub : Sub) (r : Refusal) → Idle s sub r → Refus
 step_idle s sub why.Failed h = refuse_failed s (Step sub.txn sub.number) h
 step_idle s sub why.UnknownOperation h = unknown_operation s sub (Step sub.txn sub.number) h.0 h.1 (inl refl)
 step_idle s sub _ h = absurd h
+
+-- the end of a deed answers what the model gives for it
+pub answer_gives : (d : Deed) → outcome_of (answer_of d) ≡ gave_done d
+answer_gives (Append s n tag previous body) = refl
+answer_gives (UnlinkHead s n tag body) = refl
+answer_gives (Close s) = refl
+answer_gives (Mark c tag previous) = refl
 
 pub finish_done : (s new : State) (sub : Sub) (d : Deed) → s.failed ≡ false → IsUnderWay s sub (AllMade (Doing d)) → new ≡ record s { rows = change_row sub.txn (row_finished (record { lsn = length s.records + 1; number = sub.number; deed = d })) s.rows; records = op_end sub.txn sub.number d ∷ s.records; waiting = without_taken d s.waiting } → IsSound s → IsModelStep s (Finish sub.txn sub.number) (gave_done d) new
 finish_done s new sub d running h e k =

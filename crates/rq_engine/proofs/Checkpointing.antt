@@ -47,7 +47,7 @@ use Rattle.rq_sound.proofs.Checkpoints.{checkpoint, checkpoint_sound}
 use Rattle.rq_sound.proofs.Contracts.{calls_keep}
 use Rattle.rq_engine.specs.Opened.{AreHonest, OpenStore, WritesWhen, pooled, state_after}
 use Rattle.rq_engine.specs.Crash.{AreFit, IsCut, KeepsFit, LeavesCut}
-use Rattle.rq_engine.specs.Checkpoint.{CountsFailure, CountsOne, HasFewer, HasMadeOneRecord, MayMakeOneRecord, IsBeginningOrBase, IsCutOrBased, IsStopped, KeepsFitOrBased, NotCheckpointed}
+use Rattle.rq_engine.specs.Checkpoint.{CountsNone, CountsOne, HasFewer, HasMadeOneRecord, MayMakeOneRecord, IsBeginningOrBase, IsCutOrBased, IsStopped, KeepsFitOrBased, NotCheckpointed}
 use Rattle.rq_engine.specs.Devices.{KeepsPage, Path}
 use Rattle.rq_engine.specs.Devices.Path.{Start, Pages, Log}
 use Rattle.rq_engine.specs.Earlier.{IsEarlier, on, over, rebased}
@@ -262,12 +262,17 @@ refused_legally p l old new gives _ n h e long k = absurd n
 
 -- where it stopped in its midst, and counts no more as forced than before
 pub stopped_is : {P L : Type 0} (p : page_device.Ghosts P) (l : log_device.Ghosts L) (old mid new : OpenStore P L) (r : Refusal) → MayMakeOneRecord old → IsStopped old.state mid.state r → CountsOne p l old mid → HasFewer old.changed mid.changed
-    → new.state ≡ record mid.state { forced = old.state.forced } → new.changed ≡ mid.changed → new.pages ≡ mid.pages → new.log ≡ mid.log → NotCheckpointed p l old new r
-stopped_is p l old mid new why.DiskWrite could s counts fewer is marks pages log = (
-  record { could = could; state = is ∙ ap (λ (x : State). record x { forced = old.state.forced }) s.0; fewer = λ page h. ap (λ (m : List Bool). is_changed m page) marks ∙ fewer page h },
+    → ((page : ℕ) → page_count old.state.sizes ≤ page → KeepsPage p old.pages mid.pages page) → new.state ≡ record mid.state { forced = old.state.forced } → new.changed ≡ mid.changed → new.pages ≡ mid.pages → new.log ≡ mid.log → NotCheckpointed p l old new r
+stopped_is p l old mid new why.DiskWrite could s counts fewer beyond is marks pages log = (
+  record {
+    could = could;
+    state = is ∙ ap (λ (x : State). record x { forced = old.state.forced }) s.0;
+    fewer = λ page h. ap (λ (m : List Bool). is_changed m page) marks ∙ fewer page h;
+    beyond = subst (λ (d : _). (page : ℕ) → page_count old.state.sizes ≤ page → KeepsPage p old.pages d page) (sym pages) beyond;
+  },
   subst (λ (d : _). CountsOne p l old (record new { pages = d })) (sym pages) (subst (λ (d : _). CountsOne p l old (record new { pages = mid.pages; log = d })) (sym log) counts),
 )
-stopped_is p l old mid new _ could s counts fewer is marks pages log = absurd s
+stopped_is p l old mid new _ could s counts fewer beyond is marks pages log = absurd s
 
 -- ---- failures that are counted
 
@@ -277,14 +282,11 @@ module _ {P L : Type 0} (p : page_device.Ghosts P) (l : log_device.Ghosts L) whe
   counts_one old mid new pages log (inl c) = inl (c.0 ∙ ap (λ (n : ℕ). (n + 1) % 2 ^ 64) pages, c.1 ∙ log)
   counts_one old mid new pages log (inr c) = inr (c.0 ∙ pages, c.1 ∙ ap (λ (n : ℕ). (n + 1) % 2 ^ 64) log)
 
-  pub counts_join : {T E : Type 0} (old mid new : OpenStore P L) (r : Result T E) → p.faults mid.pages ≡ p.faults old.pages → l.faults mid.log ≡ l.faults old.log → CountsFailure p l mid new r → CountsFailure p l old new r
-  counts_join old mid new (Ok x) pages log c = (c.0 ∙ pages, c.1 ∙ log)
-  counts_join old mid new (Err e) pages log c = counts_one old mid new pages log c
-
   -- a record for all, behind a force and what leaves the lists
-  pub made_later : (old mid new : OpenStore P L) (lsn n : ℕ) → MayMakeOneRecord old → mid.state ≡ record old.state { forced = n } → mid.replacing ≡ old.replacing
-      → p.faults mid.pages ≡ p.faults old.pages → l.faults mid.log ≡ l.faults old.log → HasMadeOneRecord p l mid new lsn → HasMadeOneRecord p l old new lsn
-  made_later old mid new lsn n could is tried pages log m = record {
+  made_later : (old mid new : OpenStore P L) (lsn n : ℕ) → MayMakeOneRecord old → mid.state ≡ record old.state { forced = n } → mid.replacing ≡ old.replacing
+      → p.faults mid.pages ≡ p.faults old.pages → l.faults mid.log ≡ l.faults old.log → ((page : ℕ) → page_count old.state.sizes ≤ page → KeepsPage p old.pages new.pages page)
+      → HasMadeOneRecord p l mid new lsn → HasMadeOneRecord p l old new lsn
+  made_later old mid new lsn n could is tried pages log beyond m = record {
     could = could;
     lsn = m.lsn ∙ ap (λ (s : State). length s.records + 1) is;
     state = m.state ∙ ap checkpointed is;
@@ -292,9 +294,15 @@ module _ {P L : Type 0} (p : page_device.Ghosts P) (l : log_device.Ghosts L) whe
     durable = m.durable;
     pages = λ h page low high. subst (λ (s : State). Only (image_at s.images page) (p.may_be new.pages page)) is (m.pages h page low (subst (λ (s : State). page < page_count s.sizes) (sym is) high));
     clean = λ page low high. m.clean page low (subst (λ (s : State). page < page_count s.sizes) (sym is) high);
+    beyond = beyond;
     replacing = m.replacing ∙ tried;
     counts = (m.counts.0 ∙ pages, m.counts.1 ∙ log);
   }
+
+  pub made_after : (old mid new : OpenStore P L) (n : ℕ) (answer : Result ℕ Refusal) → MayMakeOneRecord old → mid.state ≡ record old.state { forced = n } → mid.replacing ≡ old.replacing → CountsNone p l old mid
+      → ((page : ℕ) → page_count old.state.sizes ≤ page → KeepsPage p old.pages new.pages page) → IfOk answer (HasMadeOneRecord p l mid new) → IfOk answer (HasMadeOneRecord p l old new)
+  made_after old mid new n (Ok lsn) could is tried counts beyond m = made_later old mid new lsn n could is tried counts.0 counts.1 beyond m
+  made_after old mid new n (Err r) could is tried counts beyond m = tt
 
 -- ---- pages that are written, each in its turn
 

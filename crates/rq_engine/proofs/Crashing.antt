@@ -40,7 +40,7 @@ use Rattle.rq_engine.specs.declared.event.Event.TheVariants as event
 use Rattle.rq_engine.specs.declared.event.Reply.{Reply}
 use Rattle.rq_engine.specs.Opened.{AreHonest, OpenStore, WritesWhen, pooled, state_after}
 use Rattle.rq_engine.specs.KeptUp.{PagesStay, starts_one}
-use Rattle.rq_engine.specs.Says.{PagesSay, WritesSay, written_by}
+use Rattle.rq_engine.specs.Says.{PagesSay, WritesSay, call_of, written_by}
 use Rattle.rq_engine.specs.Crash.{AreFit, IsCut, KeepsFit, LeavesCut, RunsThroughCuts, StaysFit, commits_left}
 use Rattle.rq_engine.specs.Earlier.{on, over, rebased, IsEarlier}
 use Rattle.rq_engine.specs.Devices.Path.{Start, Pages, Log}
@@ -219,16 +219,16 @@ module _ {P L : Type 0} (p : page_device.Ghosts P) (l : log_device.Ghosts L) (on
     goes_out page (Err why.DiskWrite) when after = written page when.1.0.of_store when.1.1 after.0
     goes_out page (Err _) when after = stays after
 
-    goes_by : (starts : Bool) → PagesStay starts p old new → Goes
-    goes_by true say = kept_up say
-    goes_by false say = stays say
+    goes_by : (starts : Bool) (r : Reply) → PagesStay starts p old r new → Goes
+    goes_by true r say = kept_up say.0
+    goes_by false r say = stays say
 
     goes : (e : Event) (r : Reply) → IsNoCheckpoint e → WritesSay old e r → PagesSay p old new e r → Goes
     goes (event.WritePage page) r other when say = goes_out page (written_by r) when say
     goes event.Checkpoint r other when say = absurd other
     goes (event.Migrate pages) r other when say = absurd other
-    goes event.Content r other when say = kept_up say.0
-    goes e r other when say = goes_by (starts_one e) say
+    goes event.Content r other when say = kept_up say.0.0
+    goes e r other when say = goes_by (starts_one (call_of e)) r say
 
     pub fit_kept : (e : Event) (r : Reply) → IsNoCheckpoint e → (call : Call) (gave : Gave) → new.state.sizes ≡ old.state.sizes → base_lsn new.state.records ≡ base_lsn old.state.records → IsModelStep old.state call gave new.state → WritesSay old e r → PagesSay p old new e r → AreFit p new
     fit_kept e r other call gave sizes base steps when say =

@@ -41,9 +41,3 @@ few_writes z q us (UnlinkHead g n tag body) p =
     omega (arith, a, b)
 few_writes z q us (Close g) p = let a = of_writes z us _ p.writes in omega (arith, a)
 few_writes z q us (Mark c tag previous) p = let a = of_writes z us _ p.writes in omega (arith, a)
-
-pub cost_is : (d : Deed) → undo_cost (Some (op_of (said d))) ≤ 4
-cost_is (Append g n tag previous body) = omega arith
-cost_is (UnlinkHead g n tag body) = omega arith
-cost_is (Close g) = omega arith
-cost_is (Mark c tag previous) = omega arith

@@ -1,18 +1,39 @@
 -- Open stores that are kept up.
-use Rattle.std.proofs.Common.{◌≡◌, Bool, List, refl, sym, ap, subst, ◌∙◌}
+use Rattle.std.proofs.Common.{◌≡◌, ℕ, true, false, List, arith, inl, refl, sym, ap, subst, ◌∙◌}
 use Rattle.rq_disk.specs.declared.device.LogDevice as log_device
 use Rattle.rq_disk.specs.declared.device.PageDevice as page_device
 use Rattle.rq_model.specs.declared.refusal.Refusal.{Refusal}
 use Rattle.rq_model.specs.declared.refusal.Refusal.TheVariants as why
-use Rattle.rq_planner.specs.Answered.{RefusesPlan}
+use Rattle.rq_model.specs.declared.txn.Txn.{Txn}
+use Rattle.rq_model.specs.History.{Call}
+use Rattle.rq_content.specs.Read.{IsBroken, StopsFor}
+use Rattle.rq_groups.specs.declared.End.{End}
+use Rattle.rq_groups.specs.Sides.{with_end}
+use Rattle.rq_page.specs.Sizes.{Sizes}
+use Rattle.rq_planner.specs.Answered.{IsDeedFor, RefusesPlan}
+use Rattle.rq_planner.specs.Asked.{Task}
 use Rattle.rq_pool.proofs.KeptUp.{kept_still}
+use Rattle.rq_pool.specs.Reading.{OnlyRead}
 use Rattle.rq_store.specs.State.{State}
-use Rattle.rq_engine.specs.KeptUp.{AreButRead, HaveBegun, KeepsDevices, KeepsUp, RefusedButRead}
+use Rattle.rq_txn.specs.Rows.{Row, change_row, row_started}
+use Rattle.rq_engine.specs.Answers.{HasNothingUnderWay}
+use Rattle.rq_engine.specs.KeptUp.{AreButRead, KeepsDevices, KeepsUp, RefusalCounts, RefusedButRead, with_images_of}
+use Rattle.rq_engine.specs.Lists.{DoesTask, IsStarted}
 use Rattle.rq_engine.specs.Opened.{AreHonest, LeavesDevices, OpenStore, pooled}
+use Rattle.rq_engine.specs.Plans.{Planned, under_plan}
 
 -- lists but for images, over images that stayed
 pub but_same : (lists new : State) → AreButRead lists new → new.images ≡ lists.images → new ≡ lists
 but_same lists new but same = but ∙ ap (λ (i : List (List _)). record lists { images = i }) same
+
+-- a device that was not called was only read
+read_none : {P : Type 0} (g : page_device.Ghosts P) (d : P) → OnlyRead g d d
+read_none g d = record {
+  same = refl;
+  honest = λ h. h;
+  crash = λ p c may. may;
+  time = record { later = omega arith; nothing_else = λ t c before since. inl since; keeps = λ t c before past. past };
+}
 
 module _ {P L : Type 0} (g : page_device.Ghosts P) where
   -- no device was called
@@ -20,30 +41,53 @@ module _ {P L : Type 0} (g : page_device.Ghosts P) where
   devices_still old new left sizes images = (kept_still g old.state.forced (pooled old) (pooled new) left.0 sizes images left.2, left.1, left.3)
 
   -- nothing happened
-  pub up_still : (old new : OpenStore P L) → new ≡ old → KeepsUp g old new
-  up_still old new same =
-      subst (λ (s : OpenStore P L). KeepsUp g old s) (sym same) (record { devices = devices_still old old (refl, refl, refl, refl) refl refl; lists = refl })
+  pub up_still : (c : Call) (old new : OpenStore P L) → new ≡ old → KeepsUp g c old new
+  up_still c old new same =
+      subst (λ (s : OpenStore P L). KeepsUp g c old s) (sym same) (record { devices = devices_still old old (refl, refl, refl, refl) refl refl; lists = refl; faults = refl; read = λ e. read_none g old.pages; still = λ e. refl })
 
   -- over an honest device the lists are all as they were
-  pub up_state : (old new : OpenStore P L) → KeepsUp g old new → g.honest new.pages → new.state ≡ old.state
+  pub up_state : {c : Call} (old new : OpenStore P L) → KeepsUp g c old new → g.honest new.pages → new.state ≡ old.state
   up_state old new k h = but_same old.state new.state k.lists (k.devices.0.images h)
 
   -- honesty falls only
   pub up_honest : (l : log_device.Ghosts L) (old new : OpenStore P L) → KeepsDevices g old new → AreHonest g l new → AreHonest g l old
   up_honest l old new k h = (k.0.honest h.0, subst (λ (d : L). l.honest d) k.1 h.1)
 
+  -- a device counts no failure where a plan was refused of what stands in memory
+  pub planned_counts : (IsHeld : Type 0) (r : Refusal) → RefusesPlan IsHeld r → (old new : OpenStore P L) → new ≡ old → RefusalCounts g r old.pages new.pages
+  planned_counts IsHeld why.NoMemory causes old new is = ap (λ (s : OpenStore P L). g.faults s.pages) is
+  planned_counts IsHeld why.Latched causes old new is = ap (λ (s : OpenStore P L). g.faults s.pages) is
+  planned_counts IsHeld (why.Damaged d) causes old new is = ap (λ (s : OpenStore P L). g.faults s.pages) is
+  planned_counts IsHeld _ causes old new is = absurd causes
+
   -- a start, whose plan read no device: it changes nothing but lists
   pub devices_begun : (old new : OpenStore P L) (rows : _) (ends : _) (cells : _) → LeavesDevices old new → new.state ≡ record old.state { rows = rows; ends = ends; cells_in_use = cells } → KeepsDevices g old new
   devices_begun old new rows ends cells left is = devices_still old new left (ap (λ (s : State). s.sizes) is) (ap (λ (s : State). s.images) is)
 
--- what has begun
-pub begun_by : (old new : State) (rows : _) (ends : _) (cells : _) → new ≡ record old { rows = rows; ends = ends; cells_in_use = cells } → HaveBegun old new
-begun_by old new rows ends cells is = subst (HaveBegun old) (sym is) refl
+-- what has begun: it is to do what was asked
+pub begun_by : (s : State) (t : Txn) (n : ℕ) (end : End) (cells : ℕ) (task : Task) (plan : Planned) (new : State) → HasNothingUnderWay s t n → IsDeedFor task plan.deed
+    → new ≡ record s { rows = change_row t (row_started (under_plan n plan)) s.rows; ends = with_end t end s.ends; cells_in_use = cells } → IsStarted s (record { txn = t; number = n }) end cells (DoesTask task) (with_images_of s new)
+begun_by s t n end cells task plan new ready asked is = record {
+  under = under_plan n plan;
+  number = refl;
+  ready = ready;
+  plan = (refl, plan.deed, refl, asked);
+  lists = ap (with_images_of s) is;
+}
 
 -- what a refusal of a plan leaves that read no device
-module _ {P L : Type 0} (starts : Bool) (old new : OpenStore P L) where
-  pub planned_leaves : (IsHeld : Type 0) (r : Refusal) → RefusesPlan IsHeld r → new ≡ old → RefusedButRead starts old r new
+module _ {P L : Type 0} (old new : OpenStore P L) where
+  pub planned_leaves : (IsHeld : Type 0) (r : Refusal) → RefusesPlan IsHeld r → new ≡ old → RefusedButRead true old r new
   planned_leaves IsHeld why.NoMemory causes is = subst (λ (s : OpenStore P L). AreButRead old.state s.state) (sym is) refl
   planned_leaves IsHeld why.Latched causes is = subst (λ (s : OpenStore P L). AreButRead old.state s.state) (sym is) refl
   planned_leaves IsHeld (why.Damaged d) causes is = subst (λ (s : OpenStore P L). AreButRead old.state s.state) (sym is) refl
   planned_leaves IsHeld _ causes is = absurd causes
+
+-- and of a content
+module _ {P L : Type 0} (g : page_device.Ghosts P) (old : OpenStore P L) (z : Sizes) (images : List (List ℕ)) (rows : List Row) where
+  shown_leaves : (r : Refusal) → IsBroken z images rows r → RefusedButRead false old r old × RefusalCounts g r old.pages old.pages
+  shown_leaves r broken = rw (broken.page) (refl, refl)
+
+  pub content_leaves : (r : Refusal) → StopsFor z images rows r → RefusedButRead false old r old × RefusalCounts g r old.pages old.pages
+  content_leaves why.NoMemory stops = (refl, refl)
+  content_leaves r stops = shown_leaves r stops

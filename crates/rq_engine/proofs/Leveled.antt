@@ -52,7 +52,7 @@ use Rattle.rq_planner.specs.Asked.Task.{Chain, Tag}
 use Rattle.rq_engine.specs.Closes.{IsClosePlan, close_latched}
 use Rattle.rq_engine.specs.Marks.{IsMarkPlan, mark_latched}
 use Rattle.rq_engine.specs.Earlier.{IsEarlier, on}
-use Rattle.rq_engine.specs.Plans.{AreHeldUp, HasStarted, IsDeedPlan, IsStartOf, IsTakeOf, IsWithin, Planned, TellsDeed, is_latch, is_latched, known_part, planned_of, records_of, under_plan}
+use Rattle.rq_engine.specs.Plans.{AreHeldUp, ComesOf, HasStarted, IsDeedPlan, IsStartOf, IsTakeOf, IsWithin, Planned, RepliesDeed, is_latch, is_latched, known_part, planned_of, records_of, under_plan}
 use Rattle.rq_engine.specs.Sends.{HasRoom, take_latched}
 use Rattle.rq_engine.proofs.Latches.{one_write}
 use Rattle.rq_engine.proofs.Inverses.{of_writes, relinked_count}
@@ -104,7 +104,7 @@ module _ (s : State) (d : Task) (p : Plan) (h : IsPlanOf (known_part s) d p) (le
   plan_reads : deed_by level p.deed ≡ Some h.deed
   plan_reads = ap (λ n. deed_by n p.deed) of_level ∙ h.reads
 
-  pub tells_deed : TellsDeed level p
+  pub tells_deed : RepliesDeed level p
   tells_deed = record {
     told = told_by level p.deed h.deed h.told plan_reads;
     reply = h.reply ∙ ap (λ e. replies.Deed (gist_of e)) (sym (ap told_deed plan_reads));
@@ -145,6 +145,11 @@ never_failed IsHeld r causes e = subst (RefusesPlan IsHeld) e causes
 pub plain_memory : {X : Type 0} (answer : Result X Refusal) → IfErr answer (λ r. r ≡ why.NoMemory) → IfErr answer (λ r. r ≢ why.Failed)
 plain_memory (Ok x) h = tt
 plain_memory (Err r) h = λ e. (let no : why.NoMemory ≡ why.Failed = sym h ∙ e in cc)
+
+-- what was planned to take something back begins, or memory is wanting
+pub begins_planned : {X A : Type 0} (p : Plan) (HasBegun : Plan → Type 0) (answer : Result X Refusal) → (A → HasBegun p) → OnOk answer A → IfErr answer (λ r. r ≡ why.NoMemory) → ComesOf (Ok p) HasBegun answer
+begins_planned p HasBegun (Ok x) begun started memory = begun started
+begins_planned p HasBegun (Err r) begun started memory = memory
 
 module _ {X : Type 0} (s : State) (asked : Asked) (HasBegun : Type 0) where
   -- what was planned begins, or memory is wanting

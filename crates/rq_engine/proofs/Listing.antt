@@ -49,18 +49,18 @@ pub committed_from : {a b : State} (t : Txn) (number : CommitNo) (new : State) �
 committed_from t number new e is = subst (λ (s : State). IsCommitted s t number new) e is
 
 -- the start of a receive
-pub take_lists : (old : State) (t : Txn) (x : Result (Option Sub) Refusal) (y : Reply) (e : Event) (new : State) (H : Type 0) → e ≡ event.StartReceive t → (H → IfOk x (λ b. TakeSays old t b new)) → y ≡ begun_reply x → OnRead (reads_pages e) H (ListsSay old e y new)
+pub take_lists : (old : State) (t : Txn) (x : Result (Option Sub) Refusal) (y : Reply) (e : Event) (new : State) (H : Type 0) → e ≡ event.StartReceive t → (H → IfOk x (λ b. TakeSays old t b new)) → y ≡ begun_reply x → OnRead (reads_pages (call_of e)) H (ListsSay old e y new)
 take_lists old t (Ok (Some sub)) y e new H is says reply = rw (is, reply) says
 take_lists old t (Ok None) y e new H is says reply = rw (is, reply) says
 take_lists old t (Err r) y e new H is says reply = rw (is, reply) (λ h. tt)
 
-pub take_from_lists : (old : State) (t : Txn) (s : ℕ) (x : Result (Option Sub) Refusal) (y : Reply) (e : Event) (new : State) (H : Type 0) → e ≡ event.StartReceiveFrom t s → (H → IfOk x (λ b. TakeFromSays old t s b new)) → y ≡ begun_reply x → OnRead (reads_pages e) H (ListsSay old e y new)
+pub take_from_lists : (old : State) (t : Txn) (s : ℕ) (x : Result (Option Sub) Refusal) (y : Reply) (e : Event) (new : State) (H : Type 0) → e ≡ event.StartReceiveFrom t s → (H → IfOk x (λ b. TakeFromSays old t s b new)) → y ≡ begun_reply x → OnRead (reads_pages (call_of e)) H (ListsSay old e y new)
 take_from_lists old t s (Ok (Some sub)) y e new H is says reply = rw (is, reply) says
 take_from_lists old t s (Ok None) y e new H is says reply = rw (is, reply) says
 take_from_lists old t s (Err r) y e new H is says reply = rw (is, reply) (λ h. tt)
 
 -- the start of an inverse
-pub undo_lists : (old : State) (t : Txn) (x : Result (Option Sub) Refusal) (y : Reply) (e : Event) (new : State) (H : Type 0) → e ≡ event.UndoNext t → (H → IfOk x (λ b. UndoSays old t b new)) → y ≡ undo_reply x → OnRead (reads_pages e) H (ListsSay old e y new)
+pub undo_lists : (old : State) (t : Txn) (x : Result (Option Sub) Refusal) (y : Reply) (e : Event) (new : State) (H : Type 0) → e ≡ event.UndoNext t → (H → IfOk x (λ b. UndoSays old t b new)) → y ≡ undo_reply x → OnRead (reads_pages (call_of e)) H (ListsSay old e y new)
 undo_lists old t (Ok (Some sub)) y e new H is says reply = rw (is, reply) says
 undo_lists old t (Ok None) y e new H is says reply = rw (is, reply) says
 undo_lists old t (Err r) y e new H is says reply = rw (is, reply) (λ h. tt)

@@ -39,11 +39,13 @@ module _ {P L : Type 0} (old new : OpenStore P L) where
 
   refused_but : (b : Bool) (r : Refusal) → RefusedButRead b old r new → Same
   refused_but true why.DiskWrite h = ap under h
-  refused_but false why.DiskWrite h = ap under h
+  refused_but false why.DiskWrite h = absurd h
   refused_but b why.DiskRead h = ap under h
   refused_but b (why.Damaged d) h = ap under h
-  refused_but b why.Latched h = ap under h
-  refused_but b why.PoolFull h = ap under h
+  refused_but true why.Latched h = ap under h
+  refused_but false why.Latched h = absurd h
+  refused_but true why.PoolFull h = ap under h
+  refused_but false why.PoolFull h = absurd h
   refused_but b why.NoMemory h = ap under h
   refused_but b _ h = ap (λ (o : OpenStore P L). under o.state) h
 
@@ -56,26 +58,26 @@ module _ {P L : Type 0} (old new : OpenStore P L) where
   refused_by false starts writes r h = refused_still writes r h
 
   refused : (e : Event) (r : Refusal) → RefusalLeaves old e (reply.Refused r) new → Same
-  refused e r h = refused_by (reads_pages e) (starts_one e) (writes_out (call_of e)) r h
+  refused e r h = refused_by (reads_pages (call_of e)) (starts_one (call_of e)) (writes_out (call_of e)) r h
 
-  both_stay : (e : Event) (r : Reply) → IsNoCheckpoint e → (H : Type 0) → OnRead (reads_pages e) H (ListsSay old.state e r new.state) → BegunSay old e r new → RefusalLeaves old e r new → Same
+  both_stay : (e : Event) (r : Reply) → IsNoCheckpoint e → (H : Type 0) → OnRead (reads_pages (call_of e)) H (ListsSay old.state e r new.state) → BegunSay old e r new → RefusalLeaves old e r new → Same
   both_stay event.Begin (reply.Begun t) other H h b f = ap under h.lists
   both_stay event.Begin (reply.Refused r) other H h b f = refused event.Begin r f
-  both_stay (event.StartSend t s tag body) (reply.Started sub) other H h b f = ap under b
+  both_stay (event.StartSend t s tag body) (reply.Started sub) other H h b f = ap under b.1.lists
   both_stay (event.StartSend t s tag body) (reply.Refused r) other H h b f = refused (event.StartSend t s tag body) r f
   both_stay (event.StartSend t s tag body) _ other H h b f = absurd b
-  both_stay (event.StartReceive t) (reply.Started sub) other H h b f = ap under b
-  both_stay (event.StartReceive t) reply.NoMessage other H h b f = ap (λ (o : OpenStore P L). under o.state) b
+  both_stay (event.StartReceive t) (reply.Started sub) other H h b f = ap under b.1.2.lists
+  both_stay (event.StartReceive t) reply.NoMessage other H h b f = ap (λ (o : OpenStore P L). under o.state) b.0
   both_stay (event.StartReceive t) (reply.Refused r) other H h b f = refused (event.StartReceive t) r f
   both_stay (event.StartReceive t) _ other H h b f = absurd b
-  both_stay (event.StartReceiveFrom t s) (reply.Started sub) other H h b f = ap under b
-  both_stay (event.StartReceiveFrom t s) reply.NoMessage other H h b f = ap (λ (o : OpenStore P L). under o.state) b
+  both_stay (event.StartReceiveFrom t s) (reply.Started sub) other H h b f = ap under b.2.lists
+  both_stay (event.StartReceiveFrom t s) reply.NoMessage other H h b f = ap (λ (o : OpenStore P L). under o.state) b.0
   both_stay (event.StartReceiveFrom t s) (reply.Refused r) other H h b f = refused (event.StartReceiveFrom t s) r f
   both_stay (event.StartReceiveFrom t s) _ other H h b f = absurd b
-  both_stay (event.StartClose t s) (reply.Started sub) other H h b f = ap under b
+  both_stay (event.StartClose t s) (reply.Started sub) other H h b f = ap under b.1.lists
   both_stay (event.StartClose t s) (reply.Refused r) other H h b f = refused (event.StartClose t s) r f
   both_stay (event.StartClose t s) _ other H h b f = absurd b
-  both_stay (event.StartMark t c tag) (reply.Started sub) other H h b f = ap under b
+  both_stay (event.StartMark t c tag) (reply.Started sub) other H h b f = ap under b.1.lists
   both_stay (event.StartMark t c tag) (reply.Refused r) other H h b f = refused (event.StartMark t c tag) r f
   both_stay (event.StartMark t c tag) _ other H h b f = absurd b
   both_stay (event.Step sub) (reply.Stepped (progress.Done lsn)) other H h b f = ap under h.3.state
@@ -91,8 +93,8 @@ module _ {P L : Type 0} (old new : OpenStore P L) where
   both_stay (event.Commit t) (reply.Refused r) other H h b f = refused (event.Commit t) r f
   both_stay (event.StartAbort t) reply.Aborting other H h b f = ap under h.1
   both_stay (event.StartAbort t) (reply.Refused r) other H h b f = refused (event.StartAbort t) r f
-  both_stay (event.UndoNext t) (reply.Started sub) other H h b f = ap under b
-  both_stay (event.UndoNext t) reply.NothingLeft other H h b f = ap (λ (o : OpenStore P L). under o.state) b
+  both_stay (event.UndoNext t) (reply.Started sub) other H h b f = ap under b.1.lists
+  both_stay (event.UndoNext t) reply.NothingLeft other H h b f = ap (λ (o : OpenStore P L). under o.state) b.0
   both_stay (event.UndoNext t) (reply.Refused r) other H h b f = refused (event.UndoNext t) r f
   both_stay (event.UndoNext t) _ other H h b f = absurd b
   both_stay (event.EndAbort t) reply.Aborted other H h b f = ap under h.1
@@ -116,7 +118,7 @@ module _ {P L : Type 0} (old new : OpenStore P L) where
   both_stay (event.Migrate pages) r other H h b f = absurd other
   both_stay _ _ other H h b f = absurd h
 
-  pub unknown_stay : (e : Event) (r : Reply) (H : Type 0) → OnRead (reads_pages e) H (ListsSay old.state e r new.state) → BegunSay old e r new → RefusalLeaves old e r new → unknown new.state.records ≡ unknown old.state.records
+  pub unknown_stay : (e : Event) (r : Reply) (H : Type 0) → OnRead (reads_pages (call_of e)) H (ListsSay old.state e r new.state) → BegunSay old e r new → RefusalLeaves old e r new → unknown new.state.records ≡ unknown old.state.records
   unknown_stay event.Checkpoint (reply.Checkpointed lsn) H h b f = ap (λ (s : State). unknown s.records) h.1
   unknown_stay event.Checkpoint (reply.Refused r) H h b f = ap (λ k. k.0) (refused event.Checkpoint r f)
   unknown_stay event.Checkpoint _ H h b f = absurd h
@@ -125,5 +127,5 @@ module _ {P L : Type 0} (old new : OpenStore P L) where
   unknown_stay (event.Migrate pages) _ H h b f = absurd h
   unknown_stay e r H h b f = ap (λ k. k.0) (both_stay e r tt H h b f)
 
-  pub base_stays : (earlier : List Record) (e : Event) (r : Reply) → IsNoCheckpoint e → (H : Type 0) → OnRead (reads_pages e) H (ListsSay old.state e r new.state) → BegunSay old e r new → RefusalLeaves old e r new → base_lsn (rebased earlier new.state.records) ≡ base_lsn (rebased earlier old.state.records)
+  pub base_stays : (earlier : List Record) (e : Event) (r : Reply) → IsNoCheckpoint e → (H : Type 0) → OnRead (reads_pages (call_of e)) H (ListsSay old.state e r new.state) → BegunSay old e r new → RefusalLeaves old e r new → base_lsn (rebased earlier new.state.records) ≡ base_lsn (rebased earlier old.state.records)
   base_stays earlier e r other H h b f = ap (λ k. k.1 earlier) (both_stay e r other H h b f)

@@ -22,6 +22,7 @@ use Rattle.rq_sound.specs.Plans.{IsPlannedFrom}
 use Rattle.rq_sound.specs.Rows.{comp_end}
 use Rattle.rq_sound.specs.Inverses.{InverseIsLatched, InverseTakesLowest}
 use Rattle.rq_engine.specs.Answers.{HasNothingUnderWay, IsUnderWay}
+use Rattle.rq_engine.specs.KeptUp.{with_images_of}
 use Rattle.rq_engine.specs.Moves.{with_taken}
 
 -- ---- what is found
@@ -68,21 +69,29 @@ IsAborted old t new = ((n : ℕ) × IsTurnedBack old t n None)
       records = AbortEnd t ∷ old.records;
     })
 
--- The inverse of what an aborting transaction did last was started. It is the transaction's next operation, and takes the
--- lowest free cell where it takes one.
-pub record IsUndoStarted (old : State) (sub : Sub) (new : State) : Type 0 where
+-- The inverse of what an aborting transaction did last was started by a plan. It is the transaction's next operation.
+pub record IsUndoStarted (old : State) (sub : Sub) (IsPlan : Under → Finished → Type 0) (new : State) : Type 0 where
   pub under : Under
   pub done : Finished
   pub number : under.number ≡ sub.number
   pub ready : IsTurnedBack old sub.txn sub.number (Some done)
-  pub plan : IsUndoPlan old.sizes (slots_in old.sizes old.images) under done
-  pub lowest : UndoTakesLowest old done.deed under.writes
+  pub plan : IsPlan under done
   pub lists : new ≡ record old { rows = change_row sub.txn (row_started under) old.rows }
+
+-- it was planned from the slots of the store, and takes the lowest free cell where it takes one
+pub record IsLowestUndo (s : State) (u : Under) (f : Finished) : Type 0 where
+  pub planned : IsUndoPlan s.sizes (slots_in s.sizes s.images) u f
+  pub lowest : UndoTakesLowest s f.deed u.writes
 
 -- or nothing is left to undo
 abbrev pub UndoSays : State → Txn → Option Sub → State → Type 0
-UndoSays old t (Some sub) new = (sub.txn ≡ t) × IsUndoStarted old sub new
+UndoSays old t (Some sub) new = (sub.txn ≡ t) × IsUndoStarted old sub (IsLowestUndo old) new
 UndoSays old t None new = ((n : ℕ) × IsTurnedBack old t n None) × (new ≡ old)
+
+-- the inverse has begun, whatever the device gave of pages that were read
+abbrev pub IsUndoBegun : State → Txn → Sub → State → Type 0
+IsUndoBegun old t sub new = (sub.txn ≡ t)
+    × IsUndoStarted old sub (λ u f. (u.made ≡ 0) × (u.aim ≡ Undoing f.lsn f.deed)) (with_images_of old new)
 
 -- An inverse whose writes are made was ended by the record that names what it undid. That is no longer among what its
 -- transaction did. A message that the undone operation had taken waits again. The cell of a message that it had sent is free.

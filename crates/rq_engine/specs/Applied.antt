@@ -3,6 +3,7 @@ use Rattle.std.specs.Prelude.{◌≡◌, ◌↔◌, ℕ, true, false, Bool, Opti
 use Rattle.rq_model.specs.declared.refusal.Refusal.{Refusal}
 use Rattle.rq_model.specs.declared.refusal.Refusal.TheVariants as why
 use Rattle.rq_model.specs.declared.txn.Sub.{Sub}
+use Rattle.rq_model.specs.declared.txn.Txn.{Txn}
 use Rattle.rq_model.specs.History.{Call}
 use Rattle.rq_model.specs.History.Call.{Start_close, Start_mark, Start_receive, Start_receive_from, Undo_next}
 use Rattle.rq_disk.specs.declared.device.LogDevice as log_device
@@ -24,11 +25,12 @@ use Rattle.rq_engine.specs.declared.event.Progress.{Progress}
 use Rattle.rq_engine.specs.declared.event.Progress.TheVariants as progress
 use Rattle.rq_engine.specs.declared.event.Reply.{Reply}
 use Rattle.rq_engine.specs.declared.event.Reply.TheVariants as reply
+use Rattle.rq_engine.specs.Aborts.{IsUndoBegun, UndoSays}
 use Rattle.rq_engine.specs.Answers.{IsUnderWay}
-use Rattle.rq_engine.specs.Lists.{ListsSay}
+use Rattle.rq_engine.specs.Lists.{IsCloseBegun, IsMarkBegun, IsSendBegun, IsTakeBegun, ListsSay, TakeFromSays, TakeSays}
 use Rattle.rq_engine.specs.Sends.{TakesLowest}
 use Rattle.rq_engine.specs.Opened.{OpenStore, AreHonest}
-use Rattle.rq_engine.specs.KeptUp.{AreButRead, ChangesStay, HaveBegun, OnRead, RefusedButRead, reads_pages, starts_one}
+use Rattle.rq_engine.specs.KeptUp.{AreButRead, ChangesStay, OnRead, RefusedButRead, reads_pages, starts_one}
 use Rattle.rq_engine.specs.Checkpoint.{HasMadeOneRecord, IsBeginningOrBase, IsCutOrBased, KeepsFitOrBased, NotCheckpointed}
 use Rattle.rq_engine.specs.Migration.{HasMigrated, IsCutOrGrown, KeepsOrGrows, MayGetTags, NotMigrated}
 use Rattle.rq_engine.specs.Crash.{AreFit, RunsThroughCuts}
@@ -50,29 +52,32 @@ abbrev pub RefusedBy : {P L : Type 0} → (reads starts writes : Bool) → OpenS
 RefusedBy true starts writes old r new = RefusedButRead starts old r new
 RefusedBy false starts writes old r new = RefusedStill writes old r new
 
--- What a refusal leaves of the store. All is as it was, but that a device's failure in a write stops it, and that a start and a
--- content may have read pages.
+-- What a refusal leaves of the store. All is as it was, the devices too, but where a device failed in a write, which stops the
+-- store, and where a start or a content was refused behind its tests (`RefusedButRead`). Of devices other clauses tell there.
 abbrev pub RefusalLeaves : {P L : Type 0} → OpenStore P L → Event → Reply → OpenStore P L → Type 0
-RefusalLeaves old e (reply.Refused r) new = RefusedBy (reads_pages e) (starts_one e) (writes_out (call_of e)) old r new
+RefusalLeaves old e (reply.Refused r) new =
+    RefusedBy (reads_pages (call_of e)) (starts_one (call_of e)) (writes_out (call_of e)) old r new
 RefusalLeaves old e _ new = Unit {0}
 
--- What a call leaves of the lists that may read pages, whatever its device gave: what has begun, or nothing has.
-abbrev pub StartBegan : {P L : Type 0} → OpenStore P L → Reply → OpenStore P L → Type 0
-StartBegan old (reply.Started sub) new = HaveBegun old.state new.state
-StartBegan old (reply.Refused r) new = Unit {0}
-StartBegan old _ new = ⊥
+-- What a call leaves of the lists that may read pages, whatever its device gave: what has begun, or that nothing is there to
+-- begin with. What begins is planned from what was read, so of the plan an honest device alone tells (`lists`).
+abbrev pub StartBegan : {P L : Type 0} → (Begins : Sub → State → Type 0) → Reply → OpenStore P L → Type 0
+StartBegan Begins (reply.Started sub) new = Begins sub new.state
+StartBegan Begins (reply.Refused r) new = Unit {0}
+StartBegan Begins _ new = ⊥
 
-abbrev pub TakeBegan : {P L : Type 0} → OpenStore P L → Reply → OpenStore P L → Type 0
-TakeBegan old (reply.Started sub) new = HaveBegun old.state new.state
-TakeBegan old reply.NoMessage new = new ≡ old
-TakeBegan old (reply.Refused r) new = Unit {0}
-TakeBegan old _ new = ⊥
+abbrev pub TakeBegan : {P L : Type 0} → OpenStore P L → (Begins : Sub → State → Type 0) → (Lacks : State → Type 0) → Reply
+    → OpenStore P L → Type 0
+TakeBegan old Begins Lacks (reply.Started sub) new = Begins sub new.state
+TakeBegan old Begins Lacks reply.NoMessage new = (new ≡ old) × Lacks new.state
+TakeBegan old Begins Lacks (reply.Refused r) new = Unit {0}
+TakeBegan old Begins Lacks _ new = ⊥
 
-abbrev pub UndoBegan : {P L : Type 0} → OpenStore P L → Reply → OpenStore P L → Type 0
-UndoBegan old (reply.Started sub) new = HaveBegun old.state new.state
-UndoBegan old reply.NothingLeft new = new ≡ old
-UndoBegan old (reply.Refused r) new = Unit {0}
-UndoBegan old _ new = ⊥
+abbrev pub UndoBegan : {P L : Type 0} → OpenStore P L → Txn → Reply → OpenStore P L → Type 0
+UndoBegan old t (reply.Started sub) new = IsUndoBegun old.state t sub new.state
+UndoBegan old t reply.NothingLeft new = (new ≡ old) × UndoSays old.state t None new.state
+UndoBegan old t (reply.Refused r) new = Unit {0}
+UndoBegan old t _ new = ⊥
 
 abbrev pub ContentShown : {P L : Type 0} → OpenStore P L → Reply → OpenStore P L → Type 0
 ContentShown old (reply.Content groups) new = AreButRead old.state new.state
@@ -80,12 +85,14 @@ ContentShown old (reply.Refused r) new = Unit {0}
 ContentShown old _ new = ⊥
 
 abbrev pub BegunSay : {P L : Type 0} → OpenStore P L → Event → Reply → OpenStore P L → Type 0
-BegunSay old (event.StartSend txn sender tag body) r new = StartBegan old r new
-BegunSay old (event.StartReceive txn) r new = TakeBegan old r new
-BegunSay old (event.StartReceiveFrom txn sender) r new = TakeBegan old r new
-BegunSay old (event.StartClose txn sender) r new = StartBegan old r new
-BegunSay old (event.StartMark txn client tag) r new = StartBegan old r new
-BegunSay old (event.UndoNext txn) r new = UndoBegan old r new
+BegunSay old (event.StartSend txn sender tag body) r new = StartBegan (IsSendBegun old.state txn sender tag body.items) r new
+BegunSay old (event.StartReceive txn) r new =
+    TakeBegan old (λ sub s. (sender : ℕ) × IsTakeBegun old.state txn sender sub s) (TakeSays old.state txn None) r new
+BegunSay old (event.StartReceiveFrom txn sender) r new =
+    TakeBegan old (IsTakeBegun old.state txn sender) (TakeFromSays old.state txn sender None) r new
+BegunSay old (event.StartClose txn sender) r new = StartBegan (IsCloseBegun old.state txn sender) r new
+BegunSay old (event.StartMark txn client tag) r new = StartBegan (IsMarkBegun old.state txn client tag) r new
+BegunSay old (event.UndoNext txn) r new = UndoBegan old txn r new
 BegunSay old event.Content r new = ContentShown old r new
 BegunSay old _ r new = Unit {0}
 
@@ -109,7 +116,7 @@ ChangesSay old (event.Step sub) r new = SteppedSay old r new
 ChangesSay old (event.WritePage page) r new = new.changed ≡ changed_after old.changed page (written_by r)
 ChangesSay old event.Checkpoint r new = Unit {0}
 ChangesSay old (event.Migrate pages) r new = Unit {0}
-ChangesSay old e r new = ChangesStay (starts_one e) old new
+ChangesSay old e r new = ChangesStay (starts_one (call_of e)) old new
 
 -- the operation that a send started is under way, and takes the lowest free cell on a page that nobody has latched
 abbrev pub StartSays : {P L : Type 0} → OpenStore P L → Event → Reply → OpenStore P L → Type 0
@@ -139,15 +146,16 @@ TakesUnlatched s c (Err r) = OnLatched (IsLatched s c) r
 
 -- A start is refused as latched only where others' latches stand in the way of whatever it may start. That needs a page that
 -- another has latched, or a cell of which none is free outside those. Nothing is started there. Want of memory may come in the
--- refusal's place.
-abbrev pub LatchedSay : State → Event → Reply → Type 0
-LatchedSay s (event.StartSend txn sender tag body) r = LatchedReply s (call_of (event.StartSend txn sender tag body)) r
-LatchedSay s (event.StartReceive txn) r = LatchedReply s (Start_receive txn) r
-LatchedSay s (event.StartReceiveFrom txn sender) r = LatchedReply s (Start_receive_from txn sender) r
-LatchedSay s (event.StartClose txn sender) r = LatchedReply s (Start_close txn sender) r
-LatchedSay s (event.StartMark txn client tag) r = LatchedReply s (Start_mark txn client tag) r
-LatchedSay s (event.UndoNext txn) r = LatchedReply s (Undo_next txn) r
-LatchedSay s _ r = Unit {0}
+-- refusal's place. Which pages a close and a mark need is told by no page, so it is said of any device.
+abbrev pub LatchedSay : (honest : Type 0) → State → Event → Reply → Type 0
+LatchedSay honest s (event.StartSend txn sender tag body) r =
+    honest → LatchedReply s (call_of (event.StartSend txn sender tag body)) r
+LatchedSay honest s (event.StartReceive txn) r = honest → LatchedReply s (Start_receive txn) r
+LatchedSay honest s (event.StartReceiveFrom txn sender) r = honest → LatchedReply s (Start_receive_from txn sender) r
+LatchedSay honest s (event.StartClose txn sender) r = LatchedReply s (Start_close txn sender) r
+LatchedSay honest s (event.StartMark txn client tag) r = LatchedReply s (Start_mark txn client tag) r
+LatchedSay honest s (event.UndoNext txn) r = honest → LatchedReply s (Undo_next txn) r
+LatchedSay honest s _ r = Unit {0}
 
 -- a checkpoint was made, or why not; so of a migration; any other call is none
 abbrev pub CheckpointReply : {P L : Type 0} → page_device.Ghosts P → log_device.Ghosts L → OpenStore P L → Reply
@@ -207,13 +215,13 @@ KeepsOrBased p l old _ new = Unit {0}
 pub record Applied {P L : Type 0} (p : page_device.Ghosts P) (l : log_device.Ghosts L) (old : OpenStore P L)
     (e : Event) (r : Reply) (new : OpenStore P L) : Type 0 where
   -- Of a sound store over honest devices, whatever its earlier records were. The entry that event and reply say may come next,
-  -- and a refusal has its cause. Where the pages' device is honest, latches are judged.
+  -- and a refusal has its cause. Latches are judged, too, of most starts where the pages' device is honest.
   pub steps : AreHonest p l new → (earlier : List Record) → IsEarlier earlier old.state → IsSound (on earlier old.state)
       → IsModelStep (on earlier old.state) (call_of e) (gave r) (on earlier new.state)
   pub cause : AreHonest p l new → (earlier : List Record) → IsEarlier earlier old.state → IsSound (on earlier old.state)
       → RefusedForCause (on earlier old.state) e r
-  pub latched : p.honest new.pages → (earlier : List Record) → IsEarlier earlier old.state → IsSound (on earlier old.state)
-      → LatchedSay (on earlier old.state) e r
+  pub latched : (earlier : List Record) → IsEarlier earlier old.state → IsSound (on earlier old.state)
+      → LatchedSay (p.honest new.pages) (on earlier old.state) e r
   -- of every store
   pub sizes : new.state.sizes ≡ old.state.sizes
   -- of the records of which nothing is known nothing is known after it
@@ -221,7 +229,7 @@ pub record Applied {P L : Type 0} (p : page_device.Ghosts P) (l : log_device.Gho
   pub replacing : ReplacingSays old e r new
   pub failed : (r ≡ reply.Refused why.Failed) ↔ (old.state.failed ≡ true)
   pub refused : RefusalLeaves old e r new
-  pub lists : OnRead (reads_pages e) (p.honest new.pages) (ListsSay old.state e r new.state)
+  pub lists : OnRead (reads_pages (call_of e)) (p.honest new.pages) (ListsSay old.state e r new.state)
   pub begun : BegunSay old e r new
   pub changes : ChangesSay old e r new
   pub starts : p.honest new.pages → StartSays old e r new

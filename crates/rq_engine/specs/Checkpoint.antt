@@ -15,7 +15,7 @@ use Rattle.rq_store.specs.State.{State, ledger_of}
 use Rattle.rq_sound.specs.Calls.{checkpointed}
 use Rattle.rq_sound.specs.Sound.{IsSound}
 use Rattle.rq_engine.specs.Crash.{AreFit, IsCut}
-use Rattle.rq_engine.specs.Devices.{Path}
+use Rattle.rq_engine.specs.Devices.{KeepsPage, Path}
 use Rattle.rq_engine.specs.Earlier.{IsEarlier, on, over}
 use Rattle.rq_engine.specs.Opened.{AreHonest, OpenStore, pooled}
 use Rattle.rq_model.specs.Bases.{based}
@@ -69,7 +69,7 @@ module _ {P L : Type 0} (p : page_device.Ghosts P) (l : log_device.Ghosts L) whe
   CountsFailure old new (Err e) = CountsOne old new
 
   -- One record, with this LSN, was put in the place of all, where it could be. The log is that record alone, and each page is its
-  -- image, with no change to be written, whatever a crash leaves.
+  -- image, with no change to be written, whatever a crash leaves. Pages behind the store's are as they were.
   pub record HasMadeOneRecord (old new : OpenStore P L) (n : ℕ) : Type 0 where
     pub could : MayMakeOneRecord old
     pub lsn : n ≡ length old.state.records + 1
@@ -79,14 +79,17 @@ module _ {P L : Type 0} (p : page_device.Ghosts P) (l : log_device.Ghosts L) whe
     pub pages : p.honest new.pages → (page : ℕ) → 1 ≤ page → page < page_count old.state.sizes
         → Only (image_at old.state.images page) (p.may_be new.pages page)
     pub clean : (page : ℕ) → 1 ≤ page → page < page_count old.state.sizes → is_changed new.changed page ≡ false
+    pub beyond : (page : ℕ) → page_count old.state.sizes ≤ page → KeepsPage p old.pages new.pages page
     pub replacing : new.replacing ≡ old.replacing
     pub counts : CountsNone old new
 
-  -- A device failed as one was made: the store has stopped, and no page has a change to be written that had none.
+  -- A device failed as one was made: the store has stopped, and no page has a change to be written that had none. Pages behind
+  -- the store's are as they were.
   pub record HasStopped (old new : OpenStore P L) : Type 0 where
     pub could : MayMakeOneRecord old
     pub state : new.state ≡ record old.state { failed = true }
     pub fewer : HasFewer old.changed new.changed
+    pub beyond : (page : ℕ) → page_count old.state.sizes ≤ page → KeepsPage p old.pages new.pages page
 
   -- why a checkpoint was refused, and what that leaves of the store
   abbrev pub NotCheckpointed : OpenStore P L → OpenStore P L → Refusal → Type 0

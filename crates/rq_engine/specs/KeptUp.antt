@@ -1,5 +1,7 @@
 -- What a call that may read pages, and write others out, makes of an open store.
-use Rattle.std.specs.Prelude.{◌≡◌, Bool, true, false}
+use Rattle.std.specs.Prelude.{◌≡◌, ◌+◌, ◌%◌, ◌^◌, Bool, true, false, Result, Ok, Err}
+use Rattle.rq_model.specs.History.{Call}
+use Rattle.rq_model.specs.History.Call.{Start_send, Start_receive, Start_receive_from, Start_close, Start_mark, Undo_next, Show}
 use Rattle.rq_model.specs.declared.refusal.Refusal.{Refusal}
 use Rattle.rq_model.specs.declared.refusal.Refusal.TheVariants as why
 use Rattle.rq_disk.specs.declared.device.PageDevice as page_device
@@ -7,57 +9,75 @@ use Rattle.rq_pool.specs.KeptUp.{IsKeptUp}
 use Rattle.rq_pool.specs.Reading.{OnlyRead}
 use Rattle.rq_store.specs.State.{State}
 use Rattle.rq_engine.specs.Opened.{OpenStore, pooled}
-use Rattle.rq_engine.specs.declared.event.Event.{Event}
-use Rattle.rq_engine.specs.declared.event.Event.TheVariants as event
+use Rattle.rq_engine.specs.declared.event.Reply.{Reply}
+use Rattle.rq_engine.specs.declared.event.Reply.TheVariants as reply
 
 -- the call starts an operation
-abbrev pub starts_one : Event → Bool
-starts_one (event.StartSend txn sender tag body) = true
-starts_one (event.StartReceive txn) = true
-starts_one (event.StartReceiveFrom txn sender) = true
-starts_one (event.StartClose txn sender) = true
-starts_one (event.StartMark txn client tag) = true
-starts_one (event.UndoNext txn) = true
+abbrev pub starts_one : Call → Bool
+starts_one (Start_send txn message) = true
+starts_one (Start_receive txn) = true
+starts_one (Start_receive_from txn sender) = true
+starts_one (Start_close txn sender) = true
+starts_one (Start_mark txn client tag) = true
+starts_one (Undo_next txn) = true
 starts_one _ = false
 
 -- it may read pages: it starts an operation, or shows the content
-abbrev pub reads_pages : Event → Bool
-reads_pages event.Content = true
-reads_pages e = starts_one e
+abbrev pub reads_pages : Call → Bool
+reads_pages Show = true
+reads_pages c = starts_one c
 
 -- These are the lists, but that pages which were read again have the images that were read.
 abbrev pub AreButRead : State → State → Type 0
 AreButRead lists new = new ≡ record lists { images = new.images }
 
--- These are the store's lists, but that something has begun in them.
-abbrev pub HaveBegun : State → State → Type 0
-HaveBegun old new =
-    AreButRead (record old { rows = new.rows; ends = new.ends; cells_in_use = new.cells_in_use }) new
+-- the lists, with the images of others
+abbrev pub with_images_of : State → State → State
+with_images_of old new = record new { images = old.images }
 
--- A call that was refused behind its tests has perhaps read pages. A device that failed as a start wrote a page out stops the
--- store. A test that refuses leaves all as it was.
-abbrev pub WritesFail : Bool → State → State → Type 0
-WritesFail true old new = AreButRead (record old { failed = true }) new
-WritesFail false old new = AreButRead old new
+-- a start alone may be refused so
+abbrev pub OfStart : Bool → Type 0 → Type 0
+OfStart true left = left
+OfStart false left = ⊥
 
+-- What is left of the lists where such a call was refused. Behind its tests it has perhaps read pages. A device that failed as a
+-- start wrote a page out stops the store. A test that refuses leaves all as it was, the devices too.
 abbrev pub RefusedButRead : {P L : Type 0} → (starts : Bool) → OpenStore P L → Refusal → OpenStore P L → Type 0
-RefusedButRead starts old why.DiskWrite new = WritesFail starts old.state new.state
+RefusedButRead starts old why.DiskWrite new = OfStart starts (AreButRead (record old.state { failed = true }) new.state)
 RefusedButRead starts old why.DiskRead new = AreButRead old.state new.state
 RefusedButRead starts old (why.Damaged d) new = AreButRead old.state new.state
-RefusedButRead starts old why.Latched new = AreButRead old.state new.state
-RefusedButRead starts old why.PoolFull new = AreButRead old.state new.state
+RefusedButRead starts old why.Latched new = OfStart starts (AreButRead old.state new.state)
+RefusedButRead starts old why.PoolFull new = OfStart starts (AreButRead old.state new.state)
 RefusedButRead starts old why.NoMemory new = AreButRead old.state new.state
 RefusedButRead starts old _ new = new ≡ old
+
+-- How often the pages' device has failed where a call was refused: once more, where it is told, else as often as before.
+abbrev pub RefusalCounts : {P : Type 0} → page_device.Ghosts P → Refusal → P → P → Type 0
+RefusalCounts g why.DiskRead old new = g.faults new ≡ (g.faults old + 1) % 2 ^ 64
+RefusalCounts g why.DiskWrite old new = g.faults new ≡ (g.faults old + 1) % 2 ^ 64
+RefusalCounts g _ old new = g.faults new ≡ g.faults old
+
+abbrev pub AnswerCounts : {P X : Type 0} → page_device.Ghosts P → Result X Refusal → P → P → Type 0
+AnswerCounts g (Ok x) old new = g.faults new ≡ g.faults old
+AnswerCounts g (Err r) old new = RefusalCounts g r old new
+
+abbrev pub ReplyCounts : {P : Type 0} → page_device.Ghosts P → Reply → P → P → Type 0
+ReplyCounts g (reply.Refused r) old new = RefusalCounts g r old new
+ReplyCounts g _ old new = g.faults new ≡ g.faults old
 
 -- The devices of a store of which pages were read, and others written out. The log's is left alone.
 abbrev pub KeepsDevices : {P L : Type 0} → page_device.Ghosts P → OpenStore P L → OpenStore P L → Type 0
 KeepsDevices g old new = IsKeptUp g old.state.forced (pooled old) (pooled new) × (new.log ≡ old.log)
     × (new.replacing ≡ old.replacing)
 
--- and its lists are as they were
-pub record KeepsUp {P L : Type 0} (g : page_device.Ghosts P) (old new : OpenStore P L) : Type 0 where
+-- And its lists are as they were, and no device failed. Where the call starts nothing, pages were only read, and where it reads
+-- none, all is as it was.
+pub record KeepsUp {P L : Type 0} (g : page_device.Ghosts P) (c : Call) (old new : OpenStore P L) : Type 0 where
   pub devices : KeepsDevices g old new
   pub lists : AreButRead old.state new.state
+  pub faults : g.faults new.pages ≡ g.faults old.pages
+  pub read : starts_one c ≡ false → OnlyRead g old.pages new.pages
+  pub still : reads_pages c ≡ false → new ≡ old
 
 -- what is told of lists where pages were perhaps read again: what a device that is honest gives
 abbrev pub OnRead : Bool → Type 0 → Type 0 → Type 0
@@ -65,15 +85,15 @@ OnRead true honest told = honest → told
 OnRead false honest told = told
 
 -- the pages' device as a call leaves it that may read pages and write others out, and as any other does
-abbrev pub PagesStay : {P L : Type 0} → Bool → page_device.Ghosts P → OpenStore P L → OpenStore P L → Type 0
-PagesStay true g old new = IsKeptUp g old.state.forced (pooled old) (pooled new)
-PagesStay false g old new = new.pages ≡ old.pages
+abbrev pub PagesStay : {P L : Type 0} → Bool → page_device.Ghosts P → OpenStore P L → Reply → OpenStore P L → Type 0
+PagesStay true g old r new = IsKeptUp g old.state.forced (pooled old) (pooled new) × ReplyCounts g r old.pages new.pages
+PagesStay false g old r new = new.pages ≡ old.pages
 
 -- and which pages count as changed: those that are written out do no more, which is said with them
 abbrev pub ChangesStay : {P L : Type 0} → Bool → OpenStore P L → OpenStore P L → Type 0
 ChangesStay true old new = Unit {0}
 ChangesStay false old new = new.changed ≡ old.changed
 
--- a content is shown of pages that are read: none is written out
+-- A content is shown of pages that are read: the device reads as before, and a crash leaves nothing more of it.
 abbrev pub IsShown : {P L : Type 0} → page_device.Ghosts P → OpenStore P L → OpenStore P L → Type 0
 IsShown g old new = IsKeptUp g old.state.forced (pooled old) (pooled new) × OnlyRead g old.pages new.pages

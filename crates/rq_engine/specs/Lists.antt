@@ -1,4 +1,5 @@
--- What a call makes of the lists of an open store, whatever store it is.
+-- What a call makes of the lists of an open store, sound or not. Of one that may read pages it is told over a device that is
+-- honest, and what begins over any.
 use Rattle.std.specs.Prelude.{◌≡◌, ℕ, ◌+◌, ◌-◌, ◌<◌, ◌≤◌, true, not, nat_eq, nat_lt, ◌&&◌, List, ◌∷◌, length, Option, Some, None}
 use Rattle.std.specs.List.{slice_get, sum_by}
 use Rattle.rq_model.specs.declared.record.Deed.{Deed}
@@ -9,6 +10,7 @@ use Rattle.rq_model.specs.Replay.{receipt}
 use Rattle.rq_page.specs.Sizes.{client_count, sender_count}
 use Rattle.rq_views.specs.Stored.{slots_in}
 use Rattle.rq_level.specs.declared.writes.SlotWrite.{SlotWrite}
+use Rattle.rq_level.specs.Ops.Doing.{Send, Receive, Close}
 use Rattle.rq_groups.specs.declared.End.{End}
 use Rattle.rq_groups.specs.declared.End.TheVariants.{Sending, Receiving, Marking}
 use Rattle.rq_groups.specs.Ends.{is_free_for, released}
@@ -19,6 +21,9 @@ use Rattle.rq_groups.specs.Waiting.{waits}
 use Rattle.rq_txn.specs.declared.Finished.{Finished}
 use Rattle.rq_txn.specs.declared.Aim.TheVariants.{Doing}
 use Rattle.rq_txn.specs.Rows.{Under, found_row, finished_of, fresh_row, change_row, row_started, row_finished, without_row}
+use Rattle.rq_planner.specs.Answered.{IsDeedFor}
+use Rattle.rq_planner.specs.Asked.{Task}
+use Rattle.rq_planner.specs.Asked.Task.{Chain, Tag}
 use Rattle.rq_store.specs.State.{State}
 use Rattle.rq_store.specs.Plans.{IsSendPlan, IsTakePlan, WaitsFor, NoneWaits}
 use Rattle.rq_store.specs.Settled.{takes_one}
@@ -26,6 +31,7 @@ use Rattle.rq_store.specs.Steps.{op_end, gave_done}
 use Rattle.rq_sound.specs.Calls.{checkpointed, migrated}
 use Rattle.rq_engine.specs.Aborts.{IsAborted, IsAborting, IsUndoFinished, UndoSays}
 use Rattle.rq_engine.specs.Closes.{IsClosePlan}
+use Rattle.rq_engine.specs.KeptUp.{with_images_of}
 use Rattle.rq_engine.specs.Marks.{IsMarkPlan}
 use Rattle.rq_engine.specs.Answers.{IsUnderWay, IsMade, HasNothingUnderWay}
 use Rattle.rq_engine.specs.Moves.{with_sends, with_tags, without_taken}
@@ -84,6 +90,31 @@ abbrev pub IsMarkStarted : State → Txn → ℕ → ℕ → Sub → State → T
 IsMarkStarted old t client tag sub new =
     (sub.txn ≡ t) × IsStarted old sub (Marking client) old.cells_in_use
     (λ u. IsMarkPlan old.sizes (slots_in old.sizes old.images) u client tag) new
+
+-- ---- what has begun, whatever the device gave of pages that were read
+
+-- the operation is to do what was asked, and nothing of it is made
+abbrev pub DoesTask : Task → Under → Type 0
+DoesTask task u = (u.made ≡ 0) × (deed : Deed) × (u.aim ≡ Doing deed) × IsDeedFor task deed
+
+abbrev pub IsSendBegun : State → Txn → ℕ → ℕ → List ℕ → Sub → State → Type 0
+IsSendBegun old t sender tag body sub new = (sub.txn ≡ t)
+    × IsStarted old sub (Sending sender) (old.cells_in_use + 1) (DoesTask (Chain (Send sender tag body))) (with_images_of old new)
+
+abbrev pub IsTakeBegun : State → Txn → ℕ → Sub → State → Type 0
+IsTakeBegun old t sender sub new = (sub.txn ≡ t) × WaitsFor old t sender
+    × IsStarted old sub (Receiving sender) old.cells_in_use (DoesTask (Chain (Receive sender))) (with_images_of old new)
+
+abbrev pub IsCloseBegun : State → Txn → ℕ → Sub → State → Type 0
+IsCloseBegun old t sender sub new = (sub.txn ≡ t)
+    × IsStarted old sub (Sending sender) old.cells_in_use (DoesTask (Chain (Close sender))) (with_images_of old new)
+
+abbrev pub IsMarkBegun : State → Txn → ℕ → ℕ → Sub → State → Type 0
+IsMarkBegun old t client tag sub new = (sub.txn ≡ t)
+    × IsStarted old sub (Marking client) old.cells_in_use (DoesTask (Tag (record { client = client; tag = tag })))
+    (with_images_of old new)
+
+-- ---- what each call says
 
 -- a receive was started from some group, or the transaction is open with nothing under way and none waits
 abbrev pub TakeSays : State → Txn → Option Sub → State → Type 0

@@ -30,7 +30,8 @@ use Rattle.rq_store.specs.State.{State, ledger_of}
 use Rattle.rq_sound.specs.Groups.{slots_now}
 use Rattle.rq_sound.specs.Plans.{AreUnlatched, IsPlannedFrom}
 use Rattle.rq_sound.specs.Sound.{IsSound}
-use Rattle.rq_planner.specs.Answered.{IsDeedFor, IsHeldUp, MayBeAsked, RefusesPlan, SendTakesLowest}
+use Rattle.rq_level.specs.LevelState.{LevelState}
+use Rattle.rq_planner.specs.Answered.{IsAnsweredBack, IsDeedFor, IsHeldUp, KnowsCells, MayBeAsked, RefusesPlan, SendTakesLowest}
 use Rattle.rq_planner.specs.Asked.{Asked, Task, doing_sender, known}
 use Rattle.rq_planner.specs.Asked.Task.{Chain, Tag}
 use Rattle.rq_engine.specs.Aborts.{UndoTakesLowest}
@@ -52,7 +53,7 @@ abbrev pub planned_of : (level : ℕ) → Plan → Planned
 planned_of level p = record { writes = p.writes.items; deed = told_deed (deed_by level p.deed) }
 
 -- its end replies the deed that it tells
-pub record TellsDeed (level : ℕ) (p : Plan) : Type 0 where
+pub record RepliesDeed (level : ℕ) (p : Plan) : Type 0 where
   pub told : IsTold level p.deed
   pub reply : p.reply ≡ replies.Deed (gist_of (told_deed (deed_by level p.deed)))
 
@@ -117,14 +118,36 @@ pub record HasStarted (s : State) (t : Txn) (n : ℕ) (end : End) (task : Task) 
   pub planned : IsDeedPlan s task plan
   pub state : new ≡ record s { rows = change_row t (row_started (under_plan n plan)) s.rows; ends = with_end t end s.ends }
 
--- the inverse of the finished operation was planned, and is under way
+-- the inverse of the finished operation is under way, with these writes
+abbrev pub turned_back : State → Txn → ℕ → Finished → List SlotWrite → State
+turned_back s t n f ws = record s {
+  rows = change_row t (row_started (record { number = n; writes = ws; made = 0; aim = aims.Undoing f.lsn f.deed })) s.rows;
+}
+
+-- it was planned
 pub record HasTurnedBack (s : State) (t : Txn) (n : ℕ) (f : Finished) (new : State) : Type 0 where
   pub writes : List SlotWrite
   pub planned : IsInversePlan s f.deed writes
-  pub state : new ≡ record s {
-    rows = change_row t (row_started (record { number = n; writes = writes; made = 0; aim = aims.Undoing f.lsn f.deed }))
-        s.rows;
-  }
+  pub state : new ≡ turned_back s t n f writes
+
+-- the levels of the store, which know its slots, answer this to a record that is to be taken back
+pub record LevelsAnswer (s : State) (told : Record) (answer : Result Plan Refusal) : Type 0 where
+  pub levels : List LevelState
+  pub knows : KnowsCells s.sizes s.images levels
+  pub answered : IsAnsweredBack (known_part s) levels told answer
+
+-- what is planned begins, unless memory is wanting; what is not planned is refused as it was
+abbrev pub ComesOf : {X : Type 0} → Result Plan Refusal → (HasBegun : Plan → Type 0) → Result X Refusal → Type 0
+ComesOf (Ok p) HasBegun (Ok x) = HasBegun p
+ComesOf (Ok p) HasBegun (Err r) = r ≡ why.NoMemory
+ComesOf (Err r) HasBegun answer = answer ≡ Err r
+
+-- what takes this record back is asked of the levels, and begins as they plan it
+pub record BeginsBack {X : Type 0} (s : State) (told : Record) (HasBegun : Plan → Type 0) (answer : Result X Refusal)
+    : Type 0 where
+  pub plan : Result Plan Refusal
+  pub asked : LevelsAnswer s told plan
+  pub begun : ComesOf plan HasBegun answer
 
 -- What is answered to a start of what is asked. It is refused as latched exactly where latches hold it up, and for want of memory
 -- alone otherwise where a sound store may do it.

@@ -18,7 +18,7 @@ use Rattle.rq_pool.specs.declared.Written.TheVariants.{Done, Nothing}
 use Rattle.rq_pool.specs.Pooled.{image_at}
 use Rattle.rq_pool.specs.Writing.{DeviceAfter}
 use Rattle.rq_engine.specs.Opened.{OpenStore, NotWritten, WritesWhen}
-use Rattle.rq_engine.specs.KeptUp.{IsShown, PagesStay, starts_one}
+use Rattle.rq_engine.specs.KeptUp.{IsShown, PagesStay, ReplyCounts, starts_one}
 use Rattle.rq_engine.specs.declared.event.Progress.{Progress}
 use Rattle.rq_engine.specs.declared.event.Progress.TheVariants as progress
 use Rattle.rq_level.specs.declared.writes.Outcome.{Outcome}
@@ -162,15 +162,15 @@ written_by (reply.Written w) = Ok w
 written_by (reply.Refused r) = Err r
 written_by _ = Ok Nothing
 
--- What an event and its reply say of the pages' device. It stays as it is, but where a page is written, or pages may be read.
--- What a checkpoint or a migration makes of it is said with that.
+-- What an event and its reply say of the pages' device. It stays as it is, but where a page is written, or pages may be read,
+-- and how often it failed is told then. What a checkpoint or a migration makes of it is said with that.
 abbrev pub PagesSay : {P L : Type 0} → page_device.Ghosts P → OpenStore P L → OpenStore P L → Event → Reply → Type 0
 PagesSay g old new (event.WritePage page) r = DeviceAfter g page (image_at old.state.images page) old.pages new.pages
     (written_by r)
 PagesSay g old new event.Checkpoint r = Unit {0}
 PagesSay g old new (event.Migrate pages) r = Unit {0}
-PagesSay g old new event.Content r = IsShown g old new
-PagesSay g old new e r = PagesStay (starts_one e) g old new
+PagesSay g old new event.Content r = IsShown g old new × ReplyCounts g r old.pages new.pages
+PagesSay g old new e r = PagesStay (starts_one (call_of e)) g old r new
 
 -- when a page is written, or is not
 abbrev pub WritesSay : {P L : Type 0} → OpenStore P L → Event → Reply → Type 0

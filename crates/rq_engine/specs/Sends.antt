@@ -1,5 +1,5 @@
 -- An operation as one that is under way, the room that it takes, and which pages are latched.
-use Rattle.std.specs.Prelude.{◌≡◌, ◌⊎◌, ℕ, ◌+◌, ◌*◌, ◌≤◌, ◌^◌, Bool, List, true, length}
+use Rattle.std.specs.Prelude.{◌≡◌, ◌⊎◌, ℕ, ◌+◌, ◌≤◌, ◌^◌, Bool, List, true, length}
 use Rattle.rq_page.specs.Sizes.{Sizes}
 use Rattle.rq_views.specs.InStore.{IsDeedOf}
 use Rattle.rq_level.specs.declared.writes.SlotWrite.{SlotWrite}
@@ -9,7 +9,7 @@ use Rattle.rq_store.specs.State.{State, owed_by}
 use Rattle.rq_sound.specs.Groups.{slots_now}
 use Rattle.rq_sound.specs.Latching.{AllFreeLatched, any_latched, at_tail, behind_head}
 use Rattle.rq_sound.specs.Lowest.{FirstIsLowest}
-use Rattle.rq_engine.specs.Invariant.{EndFits, end_bytes}
+use Rattle.rq_engine.specs.Invariant.{EndFits}
 
 -- the log has room for the records of so many writes, and an end, behind those that are owed
 abbrev pub HasRoom : State → List SlotWrite → Type 0
@@ -27,10 +27,9 @@ SendIsLatched s g = (any_latched s.rows (at_tail (slots_now s) g) ≡ true) ⊎ 
 abbrev pub take_latched : State → ℕ → Bool
 take_latched s g = any_latched s.rows (behind_head (slots_now s) g)
 
--- the operation writes slots of the store, nothing of it is made, and its records take so many bytes
-pub record FitsUnder (z : Sizes) (u : Under) (room : ℕ) : Type 0 where
+-- the operation writes slots of the store, and nothing of it is made
+pub record FitsUnder (z : Sizes) (u : Under) : Type 0 where
   pub made : u.made ≡ 0
   pub slots : AreSlotWrites z u.writes
   pub sender : IsDeedOf z (deed_of u.aim)
   pub fits : EndFits u.aim
-  pub room_is : room ≡ 546 * length u.writes + end_bytes u.aim

@@ -9,7 +9,7 @@ ghost use Rattle.rq_content.specs.Read.{group_of};
 ghost use Rattle.rq_engine.specs.Answers.{AnswersLegally};
 ghost use Rattle.rq_engine.specs.Earlier.{on, IsEarlier};
 ghost use Rattle.rq_model.specs.declared.record.Record.{Record};
-ghost use Rattle.rq_engine.specs.KeptUp.{AreButRead, IsShown, KeepsUp, OnRead, RefusedButRead, reads_pages};
+ghost use Rattle.rq_engine.specs.KeptUp.{AnswerCounts, AreButRead, IsShown, KeepsUp, OnRead, RefusedButRead, reads_pages};
 ghost use Rattle.rq_engine.specs.Applied.{Applied, BegunSay, ChangesSay, CheckpointSays, KeepsOrBased, LatchedSay, MayLeave, RefusalLeaves, ReplacingSays, StartSays};
 ghost use Rattle.rq_engine.specs.Lists.{ListsSay};
 ghost use Rattle.rq_engine.specs.Opened.{AreHonest};
@@ -43,8 +43,9 @@ impl<P: PageDevice, L: LogDevice, B: Level> Engine<P, L, B> {
             (λ groups. Gave_content (map group_of groups.items)) result self.new }
         ensures lists { P.honest self.new.pages → OnOk result (self.new.state ≡ self.old.state) }
         ensures shown { OnOk result (AreButRead self.old.state self.new.state) }
-        // Pages are perhaps read, and none is written out.
+        // Pages are perhaps read: the device reads as before, and a crash leaves nothing more of it.
         ensures pages { IsShown P.PageDevice self.old self.new }
+        ensures faults { AnswerCounts P.PageDevice result self.old.pages self.new.pages }
         ensures changed { self.new.changed ≡ self.old.changed }
         ensures log { self.new.log ≡ self.old.log }
         ensures replacing { self.new.replacing ≡ self.old.replacing }
@@ -67,9 +68,11 @@ impl<P: PageDevice, L: LogDevice, B: Level> Engine<P, L, B> {
     /// may leave its one record instead, and a migration that with the tag pages.
     pub fn apply(&mut self, event: &Event) -> Reply
         ensures applied { Applied P.PageDevice L.LogDevice self.old event.now result self.new }
-        // a reply that memory is wanting for, or that shows the content, leaves all as it was, but for pages that were read
-        ensures no_memory { result ≡ Reply.Refused Refusal.NoMemory → KeepsUp P.PageDevice self.old self.new }
-        ensures content { IsContent result → KeepsUp P.PageDevice self.old self.new }
+        // Behind a reply that memory is wanting for, or that shows the content, pages were perhaps read. Of a start others were
+        // perhaps written out. The lists are as they were, and the log's device. All is, where the call reads no page.
+        ensures no_memory { result ≡ Reply.Refused Refusal.NoMemory
+            → KeepsUp P.PageDevice (call_of event.now) self.old self.new }
+        ensures content { IsContent result → KeepsUp P.PageDevice (call_of event.now) self.old self.new }
         ensures forced { (lsn : ℕ) → result ≡ Reply.Forced lsn → self.new.state.forced ≡ lsn }
     {
         self.shows_kept();
@@ -94,13 +97,13 @@ impl<P: PageDevice, L: LogDevice, B: Level> Engine<P, L, B> {
         // Refusals, the lists, and the marks of changed pages, of every store.
         ensures failed { (result ≡ Reply.Refused Refusal.Failed) ↔ (self.old.state.failed ≡ true) }
         ensures refused { RefusalLeaves self.old event.now result self.new }
-        ensures lists { OnRead (reads_pages event.now) (P.honest self.new.pages)
+        ensures lists { OnRead (reads_pages (call_of event.now)) (P.honest self.new.pages)
             (ListsSay self.old.state event.now result self.new.state) }
         ensures begun { BegunSay self.old event.now result self.new }
         ensures changes { ChangesSay self.old event.now result self.new }
         ensures starts { P.honest self.new.pages → StartSays self.old event.now result self.new }
-        ensures latched { P.honest self.new.pages → (e : List Record) → IsEarlier e self.old.state → IsSound (on e self.old.state)
-            → LatchedSay (on e self.old.state) event.now result }
+        ensures latched { (e : List Record) → IsEarlier e self.old.state → IsSound (on e self.old.state)
+            → LatchedSay (P.honest self.new.pages) (on e self.old.state) event.now result }
         // Devices and what a crash at any moment leaves.
         ensures honest { AreHonest P.PageDevice L.LogDevice self.new → AreHonest P.PageDevice L.LogDevice self.old }
         ensures replacing { ReplacingSays self.old event.now result self.new }

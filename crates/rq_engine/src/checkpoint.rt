@@ -80,6 +80,7 @@ impl<P: PageDevice, L: LogDevice, B: Level> Engine<P, L, B> {
         ensures refused { IfErr result (λ r. IsStopped self.old.state self.new.state r) }
         ensures cause { CountsFailure P.PageDevice L.LogDevice self.old self.new result }
         ensures fewer { HasFewer self.old.changed self.new.changed }
+        ensures behind { (page : ℕ) → page_count self.old.state.sizes ≤ page → KeepsPage P.PageDevice self.old.pages self.new.pages page }
         ensures honest { AreHonest P.PageDevice L.LogDevice self.new → AreHonest P.PageDevice L.LogDevice self.old }
         ensures any_moment { self.old.replacing ≡ false → L.honest self.new.log → LeavesOnly L.LogDevice self.old.log self.new.log
             (IsBeginningOrBase self.old.state.records self.old.state.forced) }

@@ -11,16 +11,15 @@ ghost use Rattle.rq_store.specs.State.{ledger_of, size_of};
 ghost use Rattle.rq_sound.specs.Sound.{IsSound};
 ghost use Rattle.rq_engine.specs.Earlier.{on, IsEarlier};
 ghost use Rattle.rq_model.specs.declared.record.Record.{Record};
-ghost use Rattle.rq_engine.specs.KeptUp.{HaveBegun, KeepsDevices, RefusedButRead};
+ghost use Rattle.rq_engine.specs.KeptUp.{AnswerCounts, KeepsDevices, RefusedButRead};
 ghost use Rattle.rq_engine.specs.Answers.{AnswersLegally, RefusesOver};
 ghost use Rattle.rq_engine.specs.Applied.{OnLatched, StartsUnlatched};
-ghost use Rattle.rq_engine.specs.Lists.{IsCloseStarted};
+ghost use Rattle.rq_engine.specs.Lists.{IsCloseBegun, IsCloseStarted};
 
 use crate::engine::Engine;
-use crate::starts::ONE_SLOT_RECORDS;
 use rq_disk::{LogDevice, PageDevice};
 use rq_groups::End;
-use rq_level::{Level, Op};
+use rq_level::{Level, ONE_SLOT_RECORDS, Op};
 use rq_model::refusal::Refusal;
 use rq_model::txn::{Sub, Txn};
 
@@ -38,10 +37,11 @@ impl<P: PageDevice, L: LogDevice, B: Level> Engine<P, L, B> {
         ensures sub { IfOk result (λ sub. sub.txn ≡ txn) }
         ensures lists { P.honest self.new.pages
             → IfOk result (λ sub. IsCloseStarted self.old.state txn sender sub self.new.state) }
-        ensures begun { OnOk result (HaveBegun self.old.state self.new.state) }
-        ensures latched { P.honest self.new.pages → (e : List Record) → IsEarlier e self.old.state → IsSound (on e self.old.state)
+        ensures begun { IfOk result (λ sub. IsCloseBegun self.old.state txn sender sub self.new.state) }
+        ensures latched { (e : List Record) → IsEarlier e self.old.state → IsSound (on e self.old.state)
             → StartsUnlatched (on e self.old.state) (Start_close txn sender) result }
         ensures devices { KeepsDevices P.PageDevice self.old self.new }
+        ensures faults { AnswerCounts P.PageDevice result self.old.pages self.new.pages }
         ensures refused { IfErr result (λ r. RefusedButRead true self.old r self.new) }
         ensures failed { (result ≡ Err Refusal.Failed) ↔ (self.old.state.failed ≡ true) }
     {
@@ -81,7 +81,7 @@ impl<P: PageDevice, L: LogDevice, B: Level> Engine<P, L, B> {
         if !self.ends.may_send(txn, sender) {
             return Err(Refusal::SenderBusy);
         }
-        if self.pages.group(sender).closed {
+        if self.pages.is_closed(sender) {
             return Err(Refusal::Closed);
         }
         if self.is_log_full(ONE_SLOT_RECORDS) {

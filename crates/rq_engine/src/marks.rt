@@ -10,17 +10,16 @@ ghost use Rattle.rq_store.specs.State.{ledger_of, size_of};
 ghost use Rattle.rq_sound.specs.Sound.{IsSound};
 ghost use Rattle.rq_engine.specs.Earlier.{on, IsEarlier};
 ghost use Rattle.rq_model.specs.declared.record.Record.{Record};
-ghost use Rattle.rq_engine.specs.KeptUp.{HaveBegun, KeepsDevices, RefusedButRead};
+ghost use Rattle.rq_engine.specs.KeptUp.{AnswerCounts, KeepsDevices, RefusedButRead};
 ghost use Rattle.rq_engine.specs.Answers.{AnswersLegally, RefusesOver};
 ghost use Rattle.rq_engine.specs.Applied.{OnLatched, StartsUnlatched};
-ghost use Rattle.rq_engine.specs.Lists.{IsMarkStarted};
+ghost use Rattle.rq_engine.specs.Lists.{IsMarkBegun, IsMarkStarted};
 ghost use Rattle.rq_engine.specs.Plans.{IsWithin};
 
 use crate::engine::Engine;
-use crate::starts::ONE_SLOT_RECORDS;
 use rq_disk::{LogDevice, PageDevice};
 use rq_groups::End;
-use rq_level::{Level, Op};
+use rq_level::{Level, ONE_SLOT_RECORDS, Op};
 use rq_model::refusal::Refusal;
 use rq_model::txn::{Sub, Txn};
 
@@ -38,10 +37,11 @@ impl<P: PageDevice, L: LogDevice, B: Level> Engine<P, L, B> {
         ensures sub { IfOk result (λ sub. sub.txn ≡ txn) }
         ensures lists { P.honest self.new.pages
             → IfOk result (λ sub. IsMarkStarted self.old.state txn client tag sub self.new.state) }
-        ensures begun { OnOk result (HaveBegun self.old.state self.new.state) }
-        ensures latched { P.honest self.new.pages → (e : List Record) → IsEarlier e self.old.state → IsSound (on e self.old.state)
+        ensures begun { IfOk result (λ sub. IsMarkBegun self.old.state txn client tag sub self.new.state) }
+        ensures latched { (e : List Record) → IsEarlier e self.old.state → IsSound (on e self.old.state)
             → StartsUnlatched (on e self.old.state) (Start_mark txn client tag) result }
         ensures devices { KeepsDevices P.PageDevice self.old self.new }
+        ensures faults { AnswerCounts P.PageDevice result self.old.pages self.new.pages }
         ensures refused { IfErr result (λ r. RefusedButRead true self.old r self.new) }
         ensures failed { (result ≡ Err Refusal.Failed) ↔ (self.old.state.failed ≡ true) }
     {

@@ -8,7 +8,6 @@ ghost use Rattle.rq_views.specs.Claims.{appends_of};
 ghost use Rattle.rq_engine.specs.Moves.{with_sends, with_taken, with_tags, without_taken};
 
 use rq_groups::{Sent, Waiting};
-use rq_level::Gist;
 use rq_txn::{Finished, ToldDeed};
 
 /// Has the messages wait that these operations sent.
@@ -17,7 +16,7 @@ pub(crate) fn add_sends(waiting: &mut Waiting, finished: &[Finished])
     ensures { waiting.new ≡ with_sends finished.now waiting.old }
 {
     for done in finished {
-        if let Gist::Append { sender, .. } = done.deed.gist() {
+        if let Some(sender) = done.deed.sent_by() {
             waiting.add(sender, 1);
         }
     }
@@ -30,10 +29,8 @@ pub(crate) fn count_sends(sent: &mut Sent, senders: u32, finished: &[Finished])
     ensures { sent.new ≡ with_tags senders finished.now sent.old }
 {
     for done in finished {
-        match done.deed.gist() {
-            Gist::Append { sender, tag } => sent.add(sender as usize, tag),
-            Gist::Mark { client, tag } => sent.add(senders as usize + client as usize, tag),
-            _ => {}
+        if let Some((whose, tag)) = done.deed.tagged(senders) {
+            sent.add(whose, tag);
         }
     }
 }
@@ -44,7 +41,7 @@ pub(crate) fn count_takes(finished: &[Finished]) -> u64
 {
     let mut taken: u64 = 0;
     for done in finished {
-        if let Gist::UnlinkHead { .. } = done.deed.gist() {
+        if done.deed.taken_from().is_some() {
             taken += 1;
         }
     }
@@ -56,11 +53,8 @@ pub(crate) fn put_in_taken(waiting: &mut Waiting, deed: &ToldDeed)
     requires room { (s : ℕ) → waits waiting.old s + 1 < 2 ^ 64 }
     ensures { waiting.new ≡ with_taken deed.now waiting.old }
 {
-    match deed.gist() {
-        Gist::Append { .. } => {}
-        Gist::UnlinkHead { sender } => waiting.add(sender, 1),
-        Gist::Close { .. } => {}
-        Gist::Mark { .. } => {}
+    if let Some(sender) = deed.taken_from() {
+        waiting.add(sender, 1);
     }
 }
 
@@ -68,11 +62,9 @@ pub(crate) fn put_in_taken(waiting: &mut Waiting, deed: &ToldDeed)
 pub(crate) fn cells_given_back(deed: &ToldDeed) -> u64
     ensures { result ≡ appends_of deed.now }
 {
-    match deed.gist() {
-        Gist::Append { .. } => 1,
-        Gist::UnlinkHead { .. } => 0,
-        Gist::Close { .. } => 0,
-        Gist::Mark { .. } => 0,
+    match deed.sent_by() {
+        Some(_) => 1,
+        None => 0,
     }
 }
 
@@ -80,7 +72,7 @@ pub(crate) fn cells_given_back(deed: &ToldDeed) -> u64
 pub(crate) fn leave_out_taken(waiting: &mut Waiting, deed: &ToldDeed)
     ensures { waiting.new ≡ without_taken deed.now waiting.old }
 {
-    if let Gist::UnlinkHead { sender } = deed.gist() {
+    if let Some(sender) = deed.taken_from() {
         waiting.take(sender);
     }
 }

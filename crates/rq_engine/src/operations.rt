@@ -3,11 +3,11 @@ ghost use Rattle.std.specs.Prelude.{◌≡◌, ◌↔◌, Err, ◌+◌, ◌-◌,
 ghost use Rattle.rq_model.specs.History.Call.{Step, Finish};
 ghost use Rattle.rq_model.specs.Legal.{OnFound};
 ghost use Rattle.rq_txn.specs.Rows.{change_row, found_row, row_finished, row_taken_back, under_of};
-ghost use Rattle.rq_store.specs.Steps.{op_end, gave_done};
+ghost use Rattle.rq_level.specs.Writes.{answer_of};
+ghost use Rattle.rq_store.specs.Steps.{op_end};
 ghost use Rattle.rq_sound.specs.Rows.{comp_end};
 ghost use Rattle.rq_views.specs.Claims.{appends_of, takes_of};
 ghost use Rattle.rq_views.specs.Plans.{deed_sender};
-ghost use Rattle.rq_level.specs.Writes.{answer_of};
 ghost use Rattle.rq_engine.specs.Opened.{LeavesDevices};
 ghost use Rattle.rq_engine.specs.Moves.{with_taken, without_taken};
 ghost use Rattle.rq_engine.specs.Applied.{StepChanges};
@@ -19,7 +19,7 @@ use crate::engine::Engine;
 use crate::event::{Outcome, Progress};
 use crate::moves::{cells_given_back, leave_out_taken, put_in_taken};
 use rq_disk::{LogDevice, PageDevice};
-use rq_level::{Gist, Level};
+use rq_level::Level;
 use rq_model::refusal::Refusal;
 use rq_model::txn::{Lsn, Sub};
 use rq_txn::{Aim, Finished, Operation, ToldDeed, Transactions};
@@ -62,13 +62,21 @@ impl<P: PageDevice, L: LogDevice, B: Level> Engine<P, L, B> {
         match &aim {
             Aim::Doing(deed) => {
                 self.end(sub, deed);
-                Ok(done(deed))
+                Ok(self.answer(deed))
             }
             Aim::Undoing { lsn, deed } => {
                 self.end_undo(sub, *lsn, deed);
                 Ok(Outcome::Undone)
             }
         }
+    }
+
+    // What the end of a deed answers, by the level that told it.
+    #[inline(always)]
+    fn answer(&self, deed: &ToldDeed) -> Outcome
+        ensures { result ≡ answer_of deed.now }
+    {
+        self.planner.outcome(deed.level(), deed.bytes()).unwrap()
     }
 
     // What the operation is for, where all its writes are made.
@@ -181,19 +189,5 @@ fn under_way(transactions: &Transactions, sub: Sub) -> Option<&Operation>
     match &row.under_way {
         Some(operation) if operation.number == sub.number => Some(operation),
         _ => None,
-    }
-}
-
-// What the end of a deed answers: the reply of its plan.
-#[inline(always)]
-fn done(deed: &ToldDeed) -> Outcome
-    ensures reply { result ≡ answer_of deed.now }
-    ensures gave { outcome_of result ≡ gave_done deed.now }
-{
-    match deed.gist() {
-        Gist::Append { .. } => Outcome::Sent,
-        Gist::UnlinkHead { .. } => Outcome::Message(deed.message().unwrap()),
-        Gist::Close { .. } => Outcome::Closed,
-        Gist::Mark { .. } => Outcome::Marked,
     }
 }

@@ -10,18 +10,18 @@ ghost use Rattle.rq_model.specs.declared.record.Record.{Record};
 ghost use Rattle.rq_store.specs.Plans.{NoneWaits, WaitsFor};
 ghost use Rattle.rq_engine.specs.Applied.{TakesUnlatched};
 ghost use Rattle.rq_engine.specs.Opened.{LeavesDevices};
-ghost use Rattle.rq_engine.specs.KeptUp.{HaveBegun, KeepsDevices, RefusedButRead};
+ghost use Rattle.rq_engine.specs.KeptUp.{AnswerCounts, KeepsDevices, RefusedButRead};
 ghost use Rattle.rq_engine.specs.Answers.{AnswersLegally};
-ghost use Rattle.rq_engine.specs.Lists.{TakeSays, TakeFromSays};
+ghost use Rattle.rq_engine.specs.Lists.{IsTakeBegun, TakeSays, TakeFromSays};
 ghost use Rattle.rq_engine.specs.Receives.{started_of};
 ghost use Rattle.rq_planner.specs.Asked.{Chain, Do};
 ghost use Rattle.rq_engine.specs.Plans.{HasStarted, IsStartOf, IsTakeOf, MayTake};
 
 use crate::engine::Engine;
-use crate::starts::{CHAIN_RECORDS, is_latched};
+use crate::starts::is_latched;
 use rq_disk::{LogDevice, PageDevice};
 use rq_groups::End;
-use rq_level::{Level, Op};
+use rq_level::{CHAIN_RECORDS, Level, Op};
 use rq_model::refusal::Refusal;
 use rq_model::txn::{Sub, Txn};
 
@@ -39,11 +39,14 @@ impl<P: PageDevice, L: LogDevice, B: Level> Engine<P, L, B> {
         ensures sizes { self.new.state.sizes ≡ self.old.state.sizes }
         ensures sub { IfOk result (λ begun. IfSome begun (λ sub. sub.txn ≡ txn)) }
         ensures lists { P.honest self.new.pages → IfOk result (λ begun. TakeSays self.old.state txn begun self.new.state) }
-        ensures begun { IfOk result (λ begun. IfSome begun (λ sub. HaveBegun self.old.state self.new.state)) }
-        ensures none { IfOk result (λ begun. IfNone begun (self.new ≡ self.old)) }
+        ensures begun { IfOk result (λ begun. IfSome begun
+            (λ sub. (sender : ℕ) × IsTakeBegun self.old.state txn sender sub self.new.state)) }
+        ensures none { IfOk result (λ begun. IfNone begun
+            ((self.new ≡ self.old) × TakeSays self.old.state txn None self.new.state)) }
         ensures latched { P.honest self.new.pages → (e : List Record) → IsEarlier e self.old.state → IsSound (on e self.old.state)
             → TakesUnlatched (on e self.old.state) (Start_receive txn) result }
         ensures devices { KeepsDevices P.PageDevice self.old self.new }
+        ensures faults { AnswerCounts P.PageDevice result self.old.pages self.new.pages }
         ensures refused { IfErr result (λ r. RefusedButRead true self.old r self.new) }
         ensures failed { (result ≡ Err Refusal.Failed) ↔ (self.old.state.failed ≡ true) }
     {
@@ -73,11 +76,14 @@ impl<P: PageDevice, L: LogDevice, B: Level> Engine<P, L, B> {
         ensures sub { IfOk result (λ begun. IfSome begun (λ sub. sub.txn ≡ txn)) }
         ensures lists { P.honest self.new.pages
             → IfOk result (λ begun. TakeFromSays self.old.state txn sender begun self.new.state) }
-        ensures begun { IfOk result (λ begun. IfSome begun (λ sub. HaveBegun self.old.state self.new.state)) }
-        ensures none { IfOk result (λ begun. IfNone begun (self.new ≡ self.old)) }
+        ensures begun { IfOk result (λ begun. IfSome begun
+            (λ sub. IsTakeBegun self.old.state txn sender sub self.new.state)) }
+        ensures none { IfOk result (λ begun. IfNone begun
+            ((self.new ≡ self.old) × TakeFromSays self.old.state txn sender None self.new.state)) }
         ensures latched { P.honest self.new.pages → (e : List Record) → IsEarlier e self.old.state → IsSound (on e self.old.state)
             → TakesUnlatched (on e self.old.state) (Start_receive_from txn sender) result }
         ensures devices { KeepsDevices P.PageDevice self.old self.new }
+        ensures faults { AnswerCounts P.PageDevice result self.old.pages self.new.pages }
         ensures refused { IfErr result (λ r. RefusedButRead true self.old r self.new) }
         ensures failed { (result ≡ Err Refusal.Failed) ↔ (self.old.state.failed ≡ true) }
     {

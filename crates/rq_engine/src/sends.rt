@@ -10,17 +10,16 @@ ghost use Rattle.rq_store.specs.State.{ledger_of, size_of};
 ghost use Rattle.rq_sound.specs.Sound.{IsSound};
 ghost use Rattle.rq_engine.specs.Earlier.{on, IsEarlier};
 ghost use Rattle.rq_model.specs.declared.record.Record.{Record};
-ghost use Rattle.rq_engine.specs.KeptUp.{HaveBegun, KeepsDevices, RefusedButRead};
+ghost use Rattle.rq_engine.specs.KeptUp.{AnswerCounts, KeepsDevices, RefusedButRead};
 ghost use Rattle.rq_engine.specs.Answers.{AnswersLegally, IsUnderWay, RefusesOver};
 ghost use Rattle.rq_engine.specs.Applied.{OnLatched, StartsUnlatched};
-ghost use Rattle.rq_engine.specs.Lists.{IsSendStarted};
+ghost use Rattle.rq_engine.specs.Lists.{IsSendBegun, IsSendStarted};
 ghost use Rattle.rq_engine.specs.Sends.{TakesLowest};
 
 use crate::engine::Engine;
-use crate::starts::CHAIN_RECORDS;
 use rq_disk::{LogDevice, PageDevice};
 use rq_groups::End;
-use rq_level::{Level, Op};
+use rq_level::{CHAIN_RECORDS, Level, Op};
 use rq_model::message::BODY_LIMIT;
 use rq_model::refusal::Refusal;
 use rq_model::txn::{Sub, Txn};
@@ -44,12 +43,13 @@ impl<P: PageDevice, L: LogDevice, B: Level> Engine<P, L, B> {
         ensures sub { IfOk result (λ sub. sub.txn ≡ txn) }
         ensures lists { P.honest self.new.pages
             → IfOk result (λ sub. IsSendStarted self.old.state txn sender tag body.now sub self.new.state) }
-        ensures begun { OnOk result (HaveBegun self.old.state self.new.state) }
+        ensures begun { IfOk result (λ sub. IsSendBegun self.old.state txn sender tag body.now sub self.new.state) }
         ensures lowest { P.honest self.new.pages → IfOk result (λ sub. IsUnderWay self.new.state sub
             (λ r u. TakesLowest self.old.state u.writes)) }
         ensures latched { P.honest self.new.pages → (e : List Record) → IsEarlier e self.old.state → IsSound (on e self.old.state)
             → StartsUnlatched (on e self.old.state) (Start_send txn (message_of sender tag body.now)) result }
         ensures devices { KeepsDevices P.PageDevice self.old self.new }
+        ensures faults { AnswerCounts P.PageDevice result self.old.pages self.new.pages }
         ensures refused { IfErr result (λ r. RefusedButRead true self.old r self.new) }
         ensures failed { (result ≡ Err Refusal.Failed) ↔ (self.old.state.failed ≡ true) }
     {
@@ -97,7 +97,7 @@ impl<P: PageDevice, L: LogDevice, B: Level> Engine<P, L, B> {
         if !self.ends.may_send(txn, sender) {
             return Err(Refusal::SenderBusy);
         }
-        if self.pages.group(sender).closed {
+        if self.pages.is_closed(sender) {
             return Err(Refusal::Closed);
         }
         if self.cells_in_use >= u64::from(self.pages.layout().cell_slots()) {

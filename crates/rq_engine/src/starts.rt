@@ -1,5 +1,5 @@
 //! Starts of what is to be done: a send, a receive, a close or a mark.
-ghost use Rattle.std.specs.Prelude.{◌≡◌, ◌≢◌, ◌<◌, IfErr, OnOk, OnErr, Some, false, true};
+ghost use Rattle.std.specs.Prelude.{◌≡◌, ◌≢◌, ◌≤◌, ◌<◌, IfErr, OnOk, OnErr, Some, false, true};
 ghost use Rattle.rq_model.specs.Vocabulary.{is_some};
 ghost use Rattle.rq_txn.specs.Rows.{change_row, row_started, under_of};
 ghost use Rattle.rq_groups.specs.Sides.{is_free_end, with_end};
@@ -7,23 +7,19 @@ ghost use Rattle.rq_planner.specs.Answered.{IsPlanned};
 ghost use Rattle.rq_planner.specs.Asked.{Do, IsTaskOf, Task, task_by};
 ghost use Rattle.rq_engine.specs.Opened.{LeavesDevices};
 ghost use Rattle.rq_engine.specs.Answers.{HasNothingUnderWay};
-ghost use Rattle.rq_engine.specs.Plans.{FitsPlan, HasStarted, IsStartOf, IsToStart, TellsDeed, is_latched, known_part, planned_of, under_plan};
+ghost use Rattle.rq_engine.specs.Invariant.{end_bytes};
+ghost use Rattle.rq_engine.specs.Plans.{FitsPlan, HasStarted, IsStartOf, IsToStart, RepliesDeed, is_latched, known_part, planned_of, under_plan};
 ghost use Rattle.rq_engine.specs.Sends.{FitsUnder, HasRoom};
 
 use crate::engine::Engine;
 use rq_disk::{LogDevice, PageDevice};
 use rq_groups::End;
 use rq_level::{Level, Op, Plan};
+use rq_model::record::DEED_LIMIT;
 use rq_model::refusal::Refusal;
 use rq_model::txn::Txn;
-use rq_record::{OP_END_BYTES, PAGE_OP_BYTES};
+use rq_record::{COMP_END_BYTES, OP_END_BYTES, PAGE_OP_BYTES};
 use rq_txn::{Aim, Operation, ToldDeed};
-
-/// What a send, a receive or the inverse of one is counted as where it starts: three slots and an end.
-pub(crate) const CHAIN_RECORDS: u64 = 4;
-
-/// What a close, a mark, or the inverse of one, is counted as where it starts: one slot and an end.
-pub(crate) const ONE_SLOT_RECORDS: u64 = 2;
 
 impl<P: PageDevice, L: LogDevice, B: Level> Engine<P, L, B> {
     // Has what is asked planned from the slots as they are. Takes its lock and all that its steps and its end need, and
@@ -73,7 +69,7 @@ impl<P: PageDevice, L: LogDevice, B: Level> Engine<P, L, B> {
     ) -> Result<(), Refusal>
         requires ready { HasNothingUnderWay self.old.state txn number }
         requires free { is_free_end txn end self.old.state.ends ≡ true }
-        requires told { TellsDeed level plan }
+        requires told { RepliesDeed level plan }
         requires fits { FitsPlan self.old.state.sizes (planned_of level plan) }
         requires log { HasRoom self.old.state plan.writes.items }
         ensures started { OnOk result (self.new.state ≡ record self.old.state {
@@ -90,8 +86,7 @@ impl<P: PageDevice, L: LogDevice, B: Level> Engine<P, L, B> {
             deed,
             reply,
         } = plan;
-        let last = OP_END_BYTES + deed.as_slice().len();
-        let room = writes.len() * PAGE_OP_BYTES + last;
+        prove!(deed.as_slice().len() <= DEED_LIMIT);
         let operation = Operation {
             number,
             writes,
@@ -99,7 +94,7 @@ impl<P: PageDevice, L: LogDevice, B: Level> Engine<P, L, B> {
             aim: Aim::Doing(ToldDeed::new(level, deed, reply.gist().unwrap())),
         };
         let newly = self.ends.take(txn, end)?;
-        match self.launch(txn, operation, room) {
+        match self.launch(txn, operation) {
             Ok(()) => Ok(()),
             Err(refusal) => {
                 self.ends.undo_take(txn, end, newly);
@@ -108,16 +103,11 @@ impl<P: PageDevice, L: LogDevice, B: Level> Engine<P, L, B> {
         }
     }
 
-    // Takes the room of an operation, and lets it begin.
+    // Takes the room of an operation's records, and lets it begin.
     #[inline(always)]
-    pub(crate) fn launch(
-        &mut self,
-        txn: Txn,
-        operation: Operation,
-        room: usize,
-    ) -> Result<(), Refusal>
+    pub(crate) fn launch(&mut self, txn: Txn, operation: Operation) -> Result<(), Refusal>
         requires ready { HasNothingUnderWay self.old.state txn operation.number }
-        requires fits { FitsUnder self.old.state.sizes (under_of operation) room }
+        requires fits { FitsUnder self.old.state.sizes (under_of operation) }
         requires log { HasRoom self.old.state operation.writes.items }
         ensures launched { OnOk result (self.new.state ≡ record self.old.state {
           rows = change_row txn (row_started (under_of operation)) self.old.state.rows;
@@ -126,14 +116,27 @@ impl<P: PageDevice, L: LogDevice, B: Level> Engine<P, L, B> {
         ensures refusal { IfErr result (λ r. r ≡ Refusal.NoMemory) }
         ensures refused { OnErr result (self.new ≡ self.old) }
     {
-        let owed = operation.writes.len() as u64 + 1;
+        let count = operation.writes.len();
+        let room = count * PAGE_OP_BYTES + end_len(&operation.aim);
         self.log.reserve(room)?;
         let Ok(()) = self.transactions.start(txn, operation) else {
             self.log.release(room);
             return Err(Refusal::NoMemory);
         };
-        self.owed += owed;
+        self.owed += count as u64 + 1;
         Ok(())
+    }
+}
+
+// How many bytes the record takes that ends an operation.
+#[inline(always)]
+fn end_len(aim: &Aim) -> usize
+    ensures is { result ≡ end_bytes aim.now }
+    ensures few { result ≤ 286 }
+{
+    match aim {
+        Aim::Doing(deed) => OP_END_BYTES + deed.bytes().as_slice().len(),
+        Aim::Undoing { .. } => COMP_END_BYTES,
     }
 }
 

@@ -1,54 +1,35 @@
 //! What an abort undoes: the inverses of finished operations.
-ghost use Rattle.std.specs.Prelude.{◌≡◌, ◌≢◌, ◌↔◌, ◌≤◌, Err, IfOk, IfErr, IfSome, IfNone, OnOk, OnErr, Some, false, true, length, List, ℕ};
+ghost use Rattle.std.specs.Prelude.{◌≡◌, ◌≢◌, ◌↔◌, ◌≤◌, Err, IfOk, IfErr, IfSome, IfNone, None, OnOk, OnErr, Some, false, true, length, List, ℕ};
 ghost use Rattle.rq_model.specs.History.Call.{Undo_next};
 ghost use Rattle.rq_model.specs.Tests.{log_full, undo_cost};
-ghost use Rattle.rq_model.specs.Commits.{op_of};
-ghost use Rattle.rq_model.specs.Content.{said};
 ghost use Rattle.rq_level.specs.Asked.{deed_back};
-ghost use Rattle.rq_level.specs.Writes.{AreSlotWrites};
-ghost use Rattle.rq_txn.specs.Rows.{change_row, row_started};
 ghost use Rattle.rq_sound.specs.Sound.{IsSound};
 ghost use Rattle.rq_engine.specs.Earlier.{on, IsEarlier};
 ghost use Rattle.rq_model.specs.declared.record.Record.{Record as AnyRecord};
 ghost use Rattle.rq_engine.specs.Opened.{LeavesDevices};
-ghost use Rattle.rq_engine.specs.KeptUp.{HaveBegun, KeepsDevices, RefusedButRead};
+ghost use Rattle.rq_engine.specs.KeptUp.{AnswerCounts, KeepsDevices, RefusedButRead};
 ghost use Rattle.rq_engine.specs.Answers.{AnswersLegally};
 ghost use Rattle.rq_engine.specs.Applied.{TakesUnlatched};
 ghost use Rattle.rq_engine.specs.Invariant.{IsDoneConsistent, IsLogged, end_of};
 ghost use Rattle.rq_engine.specs.Receives.{undoing_of};
-ghost use Rattle.rq_engine.specs.Sends.{HasRoom};
-ghost use Rattle.rq_engine.specs.Aborts.{IsTurnedBack, UndoSays};
+ghost use Rattle.rq_engine.specs.Aborts.{IsTurnedBack, IsUndoBegun, UndoSays};
 ghost use Rattle.rq_store.specs.State.{ledger_of, op_done};
 ghost use Rattle.rq_model.specs.Vocabulary.{is_some};
 ghost use Rattle.rq_planner.specs.Answered.{IsPlanned};
 ghost use Rattle.rq_planner.specs.Asked.{Undo};
 ghost use Rattle.rq_model.specs.declared.record.Deed.{Deed};
 ghost use Rattle.rq_views.specs.InStore.{IsDeedOf};
-ghost use Rattle.rq_engine.specs.Plans.{HasTurnedBack, IsStartOf, known_part};
+ghost use Rattle.rq_engine.specs.Plans.{BeginsBack, HasTurnedBack, IsStartOf, LevelsAnswer, known_part, turned_back};
 
 use crate::engine::Engine;
-use crate::starts::{CHAIN_RECORDS, ONE_SLOT_RECORDS};
 use rq_disk::{LogDevice, PageDevice};
-use rq_level::{Gist, Level, Plan, SlotWrite};
+use rq_level::{Level, Plan};
 use rq_model::record::Record;
 use rq_model::refusal::Refusal;
 use rq_model::txn::{Sub, Txn};
-use rq_record::{COMP_END_BYTES, PAGE_OP_BYTES};
-use rq_txn::{Aim, Finished, Operation, ToldDeed};
+use rq_txn::{Aim, Finished, Operation};
 
-/// What the inverse of an operation is counted as where it starts.
-fn undo_records(deed: &ToldDeed) -> u64
-    ensures { result ≡ undo_cost (Some (op_of (said deed.now))) }
-{
-    match deed.gist() {
-        Gist::Append { .. } => CHAIN_RECORDS,
-        Gist::UnlinkHead { .. } => CHAIN_RECORDS,
-        Gist::Close { .. } => ONE_SLOT_RECORDS,
-        Gist::Mark { .. } => ONE_SLOT_RECORDS,
-    }
-}
-
-/// The record that ended a finished operation of the transaction.
+// The record that ended a finished operation of the transaction.
 fn op_end_of(txn: Txn, done: &Finished) -> Record
     ensures { result ≡ end_of txn done.now }
 {
@@ -71,11 +52,13 @@ impl<P: PageDevice, L: LogDevice, B: Level> Engine<P, L, B> {
         ensures answered { AnswersLegally P.PageDevice L.LogDevice self.old (Undo_next txn) undoing_of result self.new }
         ensures sizes { self.new.state.sizes ≡ self.old.state.sizes }
         ensures lists { P.honest self.new.pages → IfOk result (λ started. UndoSays self.old.state txn started self.new.state) }
-        ensures begun { IfOk result (λ started. IfSome started (λ sub. HaveBegun self.old.state self.new.state)) }
-        ensures none { IfOk result (λ started. IfNone started (self.new ≡ self.old)) }
+        ensures begun { IfOk result (λ started. IfSome started (λ sub. IsUndoBegun self.old.state txn sub self.new.state)) }
+        ensures none { IfOk result (λ started. IfNone started
+            ((self.new ≡ self.old) × UndoSays self.old.state txn None self.new.state)) }
         ensures latched { P.honest self.new.pages → (e : List AnyRecord) → IsEarlier e self.old.state → IsSound (on e self.old.state)
             → TakesUnlatched (on e self.old.state) (Undo_next txn) result }
         ensures devices { KeepsDevices P.PageDevice self.old self.new }
+        ensures faults { AnswerCounts P.PageDevice result self.old.pages self.new.pages }
         ensures refused { IfErr result (λ r. RefusedButRead true self.old r self.new) }
         ensures failed { (result ≡ Err Refusal.Failed) ↔ (self.old.state.failed ≡ true) }
     {
@@ -83,7 +66,7 @@ impl<P: PageDevice, L: LogDevice, B: Level> Engine<P, L, B> {
         let Some(done) = self.transactions.next_undo(txn) else {
             return Ok(None);
         };
-        if self.is_log_full(undo_records(&done.deed)) {
+        if self.is_log_full(done.deed.undo_records()) {
             return Err(Refusal::LogFull);
         }
         match self.start_inverse(txn, number, &done) {
@@ -101,64 +84,40 @@ impl<P: PageDevice, L: LogDevice, B: Level> Engine<P, L, B> {
         requires log { log_full (ledger_of self.old.state) (undo_cost (Some (op_done done.now))) ≡ false }
         ensures started { IsStartOf self.old.state (Undo done.now.deed)
             (HasTurnedBack self.old.state txn number done.now self.new.state) result }
+        ensures answered { BeginsBack self.old.state (end_of txn done.now)
+            (λ plan. self.new.state ≡ turned_back self.old.state txn number done.now plan.writes.items) result }
         ensures devices { LeavesDevices self.old self.new }
         ensures plain { IfErr result (λ r. r ≢ Refusal.Failed) }
         ensures refused { OnErr result (self.new ≡ self.old) }
     {
         match self.plan_inverse(&op_end_of(txn, done)) {
-            Ok(plan) => self.start_undo(txn, number, done, plan.writes),
+            Ok(plan) => {
+                let operation = Operation {
+                    number,
+                    writes: plan.writes,
+                    made: 0,
+                    aim: Aim::Undoing {
+                        lsn: done.lsn,
+                        deed: done.deed,
+                    },
+                };
+                self.launch(txn, operation)
+            }
             Err(why) => Err(why),
         }
     }
 
-    // What the level plans whose deed the record tells, to take that back. The log holds the record.
+    // The level of the record's deed plans what takes it back. The log holds the record.
     fn plan_inverse(&mut self, told: &Record) -> Result<Plan, Refusal>
         requires logged { (lsn : ℕ) × IsLogged self.old.state.records lsn told.now }
         requires reads { is_some (deed_back told.now) ≡ true }
         ensures same { self.new ≡ self.old }
+        ensures answered { LevelsAnswer self.old.state told.now result }
         ensures planned { (d : Deed) → deed_back told.now ≡ Some d → IsDeedOf self.old.state.sizes d
             → IsPlanned (known_part self.old.state) (Undo d) result }
     {
         let room = self.transactions.spare();
         self.planner
             .plan_inverse(self.alloc, room, &self.pages, &self.transactions, told)
-    }
-
-    // Lets a planned inverse begin.
-    fn start_undo(
-        &mut self,
-        txn: Txn,
-        number: u64,
-        done: &Finished,
-        writes: Vec<SlotWrite>,
-    ) -> Result<(), Refusal>
-        requires ready { IsTurnedBack self.old.state txn number (Some done.now) }
-        requires slots { AreSlotWrites self.old.state.sizes writes.items }
-        requires kept { IsDoneConsistent self.old.state.sizes done.now }
-        requires count { length writes.items ≤ 3 }
-        requires log { HasRoom self.old.state writes.items }
-        ensures started { OnOk result (self.new.state ≡ record self.old.state {
-          rows = change_row txn (row_started (record {
-            number = number;
-            writes = writes.items;
-            made = 0;
-            aim = Aim.Undoing done.now.lsn done.now.deed;
-          })) self.old.state.rows;
-        }) }
-        ensures devices { LeavesDevices self.old self.new }
-        ensures refusal { IfErr result (λ r. r ≡ Refusal.NoMemory) }
-        ensures refused { OnErr result (self.new ≡ self.old) }
-    {
-        let room = writes.len() * PAGE_OP_BYTES + COMP_END_BYTES;
-        let operation = Operation {
-            number,
-            writes,
-            made: 0,
-            aim: Aim::Undoing {
-                lsn: done.lsn,
-                deed: done.deed,
-            },
-        };
-        self.launch(txn, operation, room)
     }
 }

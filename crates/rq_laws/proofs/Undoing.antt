@@ -28,7 +28,7 @@ use Rattle.rq_sound.specs.Inverses.{InverseTakesLowest}
 use Rattle.rq_sound.specs.Plans.{IsPlannedFrom}
 use Rattle.rq_sound.proofs.PlanFits.{same_cell}
 use Rattle.rq_planner.proofs.Replies.{first_new}
-use Rattle.rq_engine.specs.Aborts.{IsTurnedBack, IsUndoPlan, IsUndoStarted, UndoSays}
+use Rattle.rq_engine.specs.Aborts.{IsTurnedBack, IsUndoPlan, IsLowestUndo, IsUndoStarted, UndoSays}
 use Rattle.rq_laws.specs.Alike.{AreAlike, row_told, under_told}
 use Rattle.rq_laws.proofs.Slots.{client_same, sender_same}
 use Rattle.rq_laws.proofs.Starts.{beside_same, lowest_same, rowless, rows_alike, same_alike, told_same}
@@ -67,11 +67,11 @@ turned_same n m a b (Some r) p q = (p.1 ∙ sym q.1, sym p.3 ∙ q.3)
 turned : (s : State) (t u : Txn) (n m : ℕ) (a b : Option Finished) → t ≡ u → IsTurnedBack s t n a → IsTurnedBack s u m b → (n ≡ m) × (a ≡ b)
 turned s t u n m a b e p q = turned_same n m a b (found_row u s.rows) (subst (λ t. IsTurnedBack s t n a) e p) q
 
-both_started : (old : State) (sub : Sub) (x y : State) (f : IsUndoStarted old sub x) (h : IsUndoStarted old sub y) → f.done ≡ h.done → AreAlike x y
+both_started : (old : State) (sub : Sub) (x y : State) (f : IsUndoStarted old sub (IsLowestUndo old) x) (h : IsUndoStarted old sub (IsLowestUndo old) y) → f.done ≡ h.done → AreAlike x y
 both_started old sub x y f h e =
-    let p : IsUndoPlan old.sizes (slots_in old.sizes old.images) f.under h.done = subst (IsUndoPlan old.sizes (slots_in old.sizes old.images) f.under) e f.plan in
-    let l : InverseTakesLowest old.sizes (slots_in old.sizes old.images) old.rows h.done.deed f.under.writes = subst (λ (d : Finished). InverseTakesLowest old.sizes (slots_in old.sizes old.images) old.rows d.deed f.under.writes) e f.lowest in
-    let told = undo_told old.sizes (slots_in old.sizes old.images) old.rows f.under h.under h.done refl p h.plan l h.lowest (f.number ∙ sym h.number) in
+    let p : IsUndoPlan old.sizes (slots_in old.sizes old.images) f.under h.done = subst (IsUndoPlan old.sizes (slots_in old.sizes old.images) f.under) e f.plan.planned in
+    let l : InverseTakesLowest old.sizes (slots_in old.sizes old.images) old.rows h.done.deed f.under.writes = subst (λ (d : Finished). InverseTakesLowest old.sizes (slots_in old.sizes old.images) old.rows d.deed f.under.writes) e f.plan.lowest in
+    let told = undo_told old.sizes (slots_in old.sizes old.images) old.rows f.under h.under h.done refl p h.plan.planned l h.plan.lowest (f.number ∙ sym h.number) in
     record {
       lists = ap rowless f.lists ∙ sym (ap rowless h.lists);
       rows = ap (λ (s : State). map (row_told s.sizes) s.rows) f.lists ∙ rows_alike old.sizes sub.txn f.under h.under old.rows told ∙ sym (ap (λ (s : State). map (row_told s.sizes) s.rows) h.lists);
@@ -84,7 +84,7 @@ undo_says old t (Some a) None x y f h = absurd (some_none f.1.done (turned old a
 undo_says old t (Some a) (Some b) x y f h =
     let w = turned old a.txn b.txn _ _ _ _ (f.0 ∙ sym h.0) f.1.ready h.1.ready in
     let e : a ≡ b = ap₂ operation (f.0 ∙ sym h.0) w.0 in
-    let k : IsUndoStarted old a y = subst (λ c. IsUndoStarted old c y) (sym e) h.1 in
+    let k : IsUndoStarted old a (IsLowestUndo old) y = subst (λ c. IsUndoStarted old c (IsLowestUndo old) y) (sym e) h.1 in
     let again = turned old a.txn a.txn _ _ _ _ refl f.1.ready k.ready in
     (ap Some e, both_started old a x y f.1 k (same_Some _ _ again.1))
 

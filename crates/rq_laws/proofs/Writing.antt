@@ -1,5 +1,5 @@
 -- Calls that write out or only ask, by two stores in the same state.
-use Rattle.std.proofs.Common.{◌≡◌, ℕ, ◌+◌, ◌↔◌, ◌<◌, ◌≤◌, List, length, refl, sym, ◌∙◌, ap, subst, Bool, true, false, Result, Ok, Err, ◌⊎◌, inl, inr, arith, true≢false}
+use Rattle.std.proofs.Common.{◌≡◌, ℕ, ◌+◌, ◌↔◌, ◌<◌, ◌≤◌, List, length, refl, sym, ◌∙◌, ap, subst, [], Bool, true, false, Result, Ok, Err, ◌⊎◌, inl, inr, arith, true≢false}
 use Rattle.std.specs.Prelude.{IfErr, IfOk, OnOk, Vec, map}
 use Rattle.std.specs.declared.alloc.Global.{Global}
 use Rattle.rq_model.specs.declared.refusal.Refusal.{Refusal}
@@ -31,6 +31,9 @@ use Rattle.rq_engine.specs.Opened.{AreHonest, NotWritten, OpenStore, WritesWhen,
 use Rattle.rq_engine.specs.declared.event.ClientTag.{ClientTag}
 use Rattle.rq_engine.specs.declared.event.CommitNo.{CommitNo}
 use Rattle.rq_groups.specs.declared.sent.LastTag.{LastTag}
+use Rattle.rq_engine.specs.KeptUp.{AreButRead}
+use Rattle.rq_laws.specs.Alike.{LeftAlike}
+use Rattle.rq_laws.specs.Made.{OnBoth}
 use Rattle.rq_laws.specs.Refusals.{IsWant, RefuseAlike, RefuseTheSame}
 
 no_answer : {X : Type 0} (a : X) (r : Refusal) → Ok a ≡ Err r → ⊥
@@ -222,3 +225,30 @@ module _ {P L : Type 0} (p : page_device.Ghosts P) (l : log_device.Ghosts L) whe
       shown s.state a.0 (map group_of x.items) a.1 ∙ sym (shown s.state b.0 (map group_of y.items) b.1)
   shown_alike s t v w (Ok x) (Err e) is f g h k sound = tt
   shown_alike s t v w (Err d) b is f g h k sound = tt
+
+-- the lists without the images
+abbrev unread : State → State
+unread s = record s { images = [] }
+
+-- two stores whose pages were perhaps read
+pub left_alike : {P L : Type 0} (old old2 a b : OpenStore P L) → old ≡ old2 → AreButRead old.state a.state → a.log ≡ old.log → a.replacing ≡ old.replacing
+    → AreButRead old2.state b.state → b.log ≡ old2.log → b.replacing ≡ old2.replacing → LeftAlike a b
+left_alike old old2 a b same la log ra lb log2 rb = record {
+  lists = ap unread la ∙ ap (λ (o : OpenStore _ _). unread o.state) same ∙ sym (ap unread lb);
+  log = log ∙ ap (λ (o : OpenStore _ _). o.log) same ∙ sym log2;
+  replacing = ra ∙ ap (λ (o : OpenStore _ _). o.replacing) same ∙ sym rb;
+}
+
+pub left_unchanged : {P L : Type 0} (old old2 a b : OpenStore P L) → old ≡ old2 → AreButRead old.state a.state → a.log ≡ old.log → a.replacing ≡ old.replacing → a.changed ≡ old.changed
+    → AreButRead old2.state b.state → b.log ≡ old2.log → b.replacing ≡ old2.replacing → b.changed ≡ old2.changed → LeftAlike a b × (a.changed ≡ b.changed)
+left_unchanged old old2 a b same la log ra ca lb log2 rb cb = (left_alike old old2 a b same la log ra lb log2 rb, ca ∙ ap (λ (o : OpenStore _ _). o.changed) same ∙ sym cb)
+
+-- or whose lists are as they were
+pub left_state : {P L : Type 0} (old old2 : OpenStore P L) (a b : State) → old ≡ old2 → a ≡ old.state → b ≡ old2.state → a ≡ b
+left_state old old2 a b same f g = f ∙ ap (λ (o : OpenStore _ _). o.state) same ∙ sym g
+
+-- what is so of each that answers is so of both
+pub both_show : {X Y : Type 0} (A B C : Type 0) (a : Result X Refusal) (b : Result Y Refusal) → OnOk a A → OnOk b B → (A → B → C) → OnBoth a b C
+both_show A B C (Ok x) (Ok y) f g h = h f g
+both_show A B C (Ok x) (Err e) f g h = tt
+both_show A B C (Err d) b f g h = tt

@@ -11,6 +11,7 @@ use Rattle.rq_txn.specs.declared.Aim.{Aim}
 use Rattle.rq_txn.specs.declared.Finished.{Finished}
 use Rattle.rq_txn.specs.Rows.{Row, Under}
 use Rattle.rq_store.specs.State.{State}
+use Rattle.rq_engine.specs.Opened.{OpenStore}
 
 -- an operation under way, its writes over what the slots hold, the newest first
 pub record UnderTold : Type 0 where
@@ -51,6 +52,12 @@ pub record AreAlike (a b : State) : Type 0 where
 pub record HoldAlike (a b : State) : Type 0 where
   pub lists : record a { images = [] } ≡ record b { images = [] }
   pub slots : (at : ℕ) → slots_in a.sizes a.images at ≡ slots_in b.sizes b.images at
+
+-- the same lists but for images, and the same log: pages were perhaps read
+pub record LeftAlike {P L : Type 0} (a b : OpenStore P L) : Type 0 where
+  pub lists : record a.state { images = [] } ≡ record b.state { images = [] }
+  pub log : a.log ≡ b.log
+  pub replacing : a.replacing ≡ b.replacing
 
 -- the same operation was started, or none, and the state is the same but for what it is about
 pub record StartedAlike (p q : Option Sub) (a b : State) : Type 0 where

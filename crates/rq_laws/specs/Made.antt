@@ -9,7 +9,7 @@ use Rattle.rq_engine.specs.Opened.{OpenStore}
 use Rattle.rq_laws.specs.Refusals.{RefuseAlike}
 
 -- this is so where neither call is refused
-abbrev pub OnBoth : Result ℕ Refusal → Result ℕ Refusal → Type 0 → Type 0
+abbrev pub OnBoth : {X Y : Type 0} → Result X Refusal → Result Y Refusal → Type 0 → Type 0
 OnBoth a b Q = IfOk a (λ _. IfOk b (λ _. Q))
 
 -- Two calls made these of one store. They answer the same LSN and leave the same state. Both logs read as the same bytes. A crash

@@ -3,7 +3,7 @@ ghost use Rattle.std.specs.Prelude.{◌≡◌, ◌≤◌, ◌<◌, ℕ, List, If
 ghost use Rattle.rq_content.specs.Read.{group_of};
 ghost use Rattle.rq_engine.specs.Opened.{AreHonest};
 ghost use Rattle.rq_engine.specs.Says.{receipt_of};
-ghost use Rattle.rq_laws.specs.Alike.{ReadAlike};
+ghost use Rattle.rq_laws.specs.Alike.{LeftAlike, ReadAlike};
 ghost use Rattle.rq_laws.specs.Made.{MakeAlike, OnBoth};
 ghost use Rattle.rq_laws.specs.Refusals.{RefuseAlike, RefuseTheSame};
 ghost use Rattle.rq_page.specs.Sizes.{page_count, with_tags};
@@ -220,7 +220,8 @@ pub fn write_page<P: PageDevice, L: LogDevice, B: Level>(
 }
 
 /// Of a sound store the same content is shown. Of one that is not sound, or whose devices were not honest, the contract
-/// says nothing of what is shown. Excludes what is not committed, what was received, and a group that is left out.
+/// says nothing of what is shown. Both leave the same but for pages that were read, and over honest devices the same lists.
+/// Excludes what is not committed, what was received, and a group that is left out.
 pub fn content<P: PageDevice, L: LogDevice, B: Level>(
     first: &mut Engine<P, L, B>,
     second: &mut Engine<P, L, B>,
@@ -232,6 +233,9 @@ pub fn content<P: PageDevice, L: LogDevice, B: Level>(
     ensures same { AreHonest P.PageDevice L.LogDevice first.new → AreHonest P.PageDevice L.LogDevice second.new
         → IsSound first.old.state
         → IfOk result.0 (λ a. IfOk result.1 (λ b. map group_of a.items ≡ map group_of b.items)) }
+    ensures left { OnBoth result.0 result.1 (LeftAlike first.new second.new × (first.new.changed ≡ second.new.changed)) }
+    ensures lists { P.honest first.new.pages → P.honest second.new.pages
+        → OnBoth result.0 result.1 (first.new.state ≡ second.new.state) }
     ensures decided { AreHonest P.PageDevice L.LogDevice first.new → AreHonest P.PageDevice L.LogDevice second.new
         → IsSound first.old.state → RefuseAlike result.0 result.1 }
 {

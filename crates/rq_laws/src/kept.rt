@@ -1,5 +1,8 @@
 //! The kept engine: two in the same state that are given the same call.
-ghost use Rattle.std.specs.Prelude.{◌≡◌, ◌≢◌};
+ghost use Rattle.std.specs.Prelude.{◌≡◌, ◌≢◌, false};
+ghost use Rattle.rq_engine.specs.KeptUp.{reads_pages};
+ghost use Rattle.rq_engine.specs.Says.{call_of};
+ghost use Rattle.rq_laws.specs.Alike.{LeftAlike};
 
 use rq_disk::{LogDevice, PageDevice};
 use rq_engine::event::{Event, Reply};
@@ -8,7 +11,8 @@ use rq_model::refusal::Refusal;
 use rq_shared::kept::{Kept, Stamped, Taken};
 
 /// A stamp says who asked and what. Two of one reply come with the same entry. Where memory was wanting there is none, and
-/// over honest devices the lists are as they were. Excludes an entry that is left out, and a call that is told as another.
+/// the lists are as they were but for images, which are over honest devices. So are the log, and the count of failures. All is,
+/// where the call reads no page. Excludes an entry that is left out, and a call that is told as another.
 pub fn step<P: PageDevice + Drop, L: LogDevice + Drop, B: Level>(
     first: &mut Kept<P, L, B>,
     second: &mut Kept<P, L, B>,
@@ -27,6 +31,11 @@ pub fn step<P: PageDevice + Drop, L: LogDevice + Drop, B: Level>(
     ensures same { result.0.reply ≡ Reply.Refused Refusal.NoMemory → result.1.reply ≡ Reply.Refused Refusal.NoMemory
         → P.honest first.new.engine.pages → P.honest second.new.engine.pages
         → first.new.engine.state ≡ second.new.engine.state }
+    ensures left { result.0.reply ≡ Reply.Refused Refusal.NoMemory → result.1.reply ≡ Reply.Refused Refusal.NoMemory
+        → LeftAlike first.new.engine second.new.engine
+        × (P.faults first.new.engine.pages ≡ P.faults second.new.engine.pages) }
+    ensures still { result.0.reply ≡ Reply.Refused Refusal.NoMemory → result.1.reply ≡ Reply.Refused Refusal.NoMemory
+        → reads_pages (call_of event) ≡ false → first.new ≡ second.new }
 {
     (first.step(pass, event), second.step(pass, again))
 }

@@ -87,8 +87,7 @@ pub fn start_close<P: PageDevice, L: LogDevice, B: Level>(
     requires same { first.old ≡ second.old }
     ensures same { P.honest first.new.pages → P.honest second.new.pages → IfOk result.0 (λ a. IfOk result.1
         (λ b. (a ≡ b) × AreAlike first.new.state second.new.state)) }
-    ensures latched { P.honest first.new.pages → P.honest second.new.pages → IsSound first.old.state
-        → LatchedApart result.0 result.1 }
+    ensures latched { IsSound first.old.state → LatchedApart result.0 result.1 }
     ensures decided { AreHonest P.PageDevice L.LogDevice first.new → AreHonest P.PageDevice L.LogDevice second.new
         → IsSound first.old.state → RefuseAlike result.0 result.1 }
 {
@@ -110,8 +109,7 @@ pub fn start_mark<P: PageDevice, L: LogDevice, B: Level>(
     requires same { first.old ≡ second.old }
     ensures same { P.honest first.new.pages → P.honest second.new.pages → IfOk result.0 (λ a. IfOk result.1
         (λ b. (a ≡ b) × AreAlike first.new.state second.new.state)) }
-    ensures latched { P.honest first.new.pages → P.honest second.new.pages → IsSound first.old.state
-        → LatchedApart result.0 result.1 }
+    ensures latched { IsSound first.old.state → LatchedApart result.0 result.1 }
     ensures decided { AreHonest P.PageDevice L.LogDevice first.new → AreHonest P.PageDevice L.LogDevice second.new
         → IsSound first.old.state → RefuseAlike result.0 result.1 }
 {

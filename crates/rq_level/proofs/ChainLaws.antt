@@ -1,5 +1,5 @@
 -- What the level of chains keeps to.
-use Rattle.std.proofs.Common.{◌≡◌, ◌≢◌, ◌⊎◌, ℕ, ◌/◌, ◌%◌, arith, List, [], ◌∷◌, Bool, true, false, Option, None, Some, Ok, map, reverse, refl, sym, ap, ◌∙◌, subst, inl, inr}
+use Rattle.std.proofs.Common.{◌≡◌, ◌≢◌, ◌<◌, ℕ, ◌/◌, ◌%◌, arith, List, [], ◌∷◌, Bool, true, false, Option, None, Some, Ok, map, reverse, refl, sym, ap, ◌∙◌, subst, inl, inr}
 use Rattle.std.proofs.lemmas.List.{reverse-reverse, set-set}
 use Rattle.rq_model.specs.declared.record.Deed.{Deed}
 use Rattle.rq_model.specs.declared.record.Deed.TheVariants.{Append, UnlinkHead, Close as Close_deed, Mark}
@@ -19,12 +19,12 @@ use Rattle.rq_level.specs.ChainPlans as chain
 use Rattle.rq_level.specs.ChainPlans.{Plans, PlansFor, Undoes, chain_plans, chain_undoes, job_wanted}
 use Rattle.rq_level.specs.Given.{AreGiven, given_at}
 use Rattle.rq_level.specs.LevelState.{LevelState, IsLowest, is_free_slot, noted, noted_cell, reserved_at}
-use Rattle.rq_level.specs.Meaning.{AreOf, Meaning, chain_meaning}
+use Rattle.rq_level.specs.Meaning.{AreOf, Meaning, chain_meaning, level_count}
 use Rattle.rq_level.specs.Ops.{Doing, Job, doing_by, doing_in}
 use Rattle.rq_level.specs.Ops.Doing.{Send, Receive, Close}
 use Rattle.std.proofs.lemmas.Option.{same_Some}
 use Rattle.rq_level.specs.Gists.{gist_of}
-use Rattle.rq_level.specs.Writes.{AreSlotWrites, reply_of, writes_of}
+use Rattle.rq_level.specs.Writes.{AreSlotWrites, writes_of}
 use Rattle.rq_level.specs.declared.slots.Given.{Given}
 use Rattle.rq_level.specs.declared.writes.Replies.TheVariants as replies
 use Rattle.rq_level.specs.declared.writes.Plan.{Plan}
@@ -62,31 +62,33 @@ module _ (k : LevelState) (given : List Given) (latched : List ℕ) (p : Plan) (
   backed _ h = absurd h
 
 -- what is taken back is a deed of chains
-deed_back : (k : LevelState) (given : List Given) (latched : List ℕ) (p : Plan) (after : LevelState) (z : Option Sizes) (d : Option Deed) → Undoes z d k given latched (Ok p) after → (e : Deed) × (d ≡ Some e) × (deed_level e ≡ 1)
-deed_back k given latched p after (Some z) (Some (Append s n tag previous body)) h = (Append s n tag previous body, refl, refl)
-deed_back k given latched p after (Some z) (Some (UnlinkHead s n tag body)) h = (UnlinkHead s n tag body, refl, refl)
-deed_back k given latched p after (Some z) (Some (Close_deed s)) h = (Close_deed s, refl, refl)
-deed_back k given latched p after (Some z) (Some (Mark c tag previous)) h = absurd h
-deed_back k given latched p after (Some z) None h = absurd h
-deed_back k given latched p after None (Some d) h = absurd h
-deed_back k given latched p after None None h = absurd h
+chain_deed_back : (k : LevelState) (given : List Given) (latched : List ℕ) (p : Plan) (after : LevelState) (z : Option Sizes) (d : Option Deed) → Undoes z d k given latched (Ok p) after → (e : Deed) × (d ≡ Some e) × (deed_level e ≡ 1)
+chain_deed_back k given latched p after (Some z) (Some (Append s n tag previous body)) h = (Append s n tag previous body, refl, refl)
+chain_deed_back k given latched p after (Some z) (Some (UnlinkHead s n tag body)) h = (UnlinkHead s n tag body, refl, refl)
+chain_deed_back k given latched p after (Some z) (Some (Close_deed s)) h = (Close_deed s, refl, refl)
+chain_deed_back k given latched p after (Some z) (Some (Mark c tag previous)) h = absurd h
+chain_deed_back k given latched p after (Some z) None h = absurd h
+chain_deed_back k given latched p after None (Some d) h = absurd h
+chain_deed_back k given latched p after None None h = absurd h
 
 pub back_read : (k : LevelState) (told : Record) (given : List Given) (latched : List ℕ) (p : Plan) (after : LevelState) → chain_undoes k told given latched (Ok p) after → TellsDeedOf 1 told
 back_read k (records.OpEnd t n level deed) given latched p after h =
-    let back = deed_back k given latched p after k.sizes (deed_by level deed) h in
+    let back = chain_deed_back k given latched p after k.sizes (deed_by level deed) h in
     let one : level ≡ 1 = sym (told_by_its_level level deed back.0 back.1) ∙ back.2 in
     (one, sym (ap (λ l. is_some (deed_by l deed)) one) ∙ ap is_some back.1)
 back_read k _ given latched p after h = absurd h
 
-doing_done : (k : LevelState) (given : List Given) (latched : List ℕ) (p : Plan) (after : LevelState) (undo : Bool) (z : Option Sizes) (d : Option Doing) → PlansFor undo z d k given latched (Ok p) after → is_some d ≡ true
+doing_done : (k : LevelState) (given : List Given) (latched : List ℕ) (p : Plan) (after : LevelState) (undo : Bool) (z : Option Sizes) (d : Option Doing) → PlansFor undo z d k given latched (Ok p) after → (undo ≡ false) × (is_some d ≡ true)
 doing_done k given latched p after true z d h = absurd h
-doing_done k given latched p after false (Some z) (Some d) h = refl
+doing_done k given latched p after false (Some z) (Some d) h = (refl, refl)
 doing_done k given latched p after false (Some z) None h = absurd h
 doing_done k given latched p after false None (Some d) h = absurd h
 doing_done k given latched p after false None None h = absurd h
 
-pub plan_own : (k : LevelState) (job : Job) (given : List Given) (latched : List ℕ) (p : Plan) (after : LevelState) → chain_plans k job given latched (Ok p) after → (job.level ≡ 1) × (chain_meaning.asks job.bytes ≡ true)
-plan_own k job given latched p after h = read_of 1 job.level (doing_in job.bytes) (doing_done k given latched p after job.undo k.sizes (doing_by job.level job.bytes) h)
+pub plan_own : (k : LevelState) (job : Job) (given : List Given) (latched : List ℕ) (p : Plan) (after : LevelState) → chain_plans k job given latched (Ok p) after → (job.level ≡ 1) × (job.undo ≡ false) × (1 < level_count)
+plan_own k job given latched p after h =
+    let m = doing_done k given latched p after job.undo k.sizes (doing_by job.level job.bytes) h in
+    (read_of 1 job.level (doing_in job.bytes) m.1, m.0, omega arith)
 
 -- ---- what its writes are over, and what it asks for
 
@@ -121,7 +123,7 @@ module _ (k : LevelState) (given : List Given) (latched : List ℕ) (p : Plan) (
   takes z w told i e = chosen m.sizes k given latched p after m.plan w i e ∙ ap (λ y. reserved_at y k w.at) (same_sizes z told)
 
   slots : AreOfSlots k p
-  slots z told = subst (λ y. AreSlotWrites y p.writes.items) (same_sizes z told) m.plan.slots
+  slots = record { sizes = m.sizes; told = m.told; are = m.plan.slots }
 
 pub over_plan : (k : LevelState) (job : Job) (given : List Given) (latched : List ℕ) (p : Plan) (after : LevelState) → chain_plans k job given latched (Ok p) after → AreOf k.sizes given → AreNoted chain_meaning k given → AreOver k given latched p.writes.items
 over_plan k job given latched p after h = over k given latched p after (job_wanted job) (planned k given latched p after job h)
@@ -242,9 +244,9 @@ deed_read (Some z) None k given latched p after h = absurd h
 deed_read None (Some d) k given latched p after h = absurd h
 deed_read None None k given latched p after h = absurd h
 
-pub plan_told : (undo : Bool) (z : Option Sizes) (d : Option Doing) (k : LevelState) (given : List Given) (latched : List ℕ) (p : Plan) (after : LevelState) → PlansFor undo z d k given latched (Ok p) after → (is_some (deed_in p.deed) ≡ true) ⊎ ((p.deed ≡ []) × (reply_of 1 p ≡ None))
+pub plan_told : (undo : Bool) (z : Option Sizes) (d : Option Doing) (k : LevelState) (given : List Given) (latched : List ℕ) (p : Plan) (after : LevelState) → PlansFor undo z d k given latched (Ok p) after → is_some (deed_in p.deed) ≡ true
 plan_told true z d k given latched p after h = absurd h
-plan_told false z d k given latched p after h = inl (deed_read z d k given latched p after h)
+plan_told false z d k given latched p after h = deed_read z d k given latched p after h
 
 -- what its end replies, by the deed that it tells
 by_deed : (p : Plan) (d e : Deed) → p.reply ≡ replies.Deed (gist_of d) → deed_in p.deed ≡ Some d → deed_in p.deed ≡ Some e → p.reply ≡ replies.Deed (gist_of e)

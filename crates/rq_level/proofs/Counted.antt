@@ -1,4 +1,4 @@
--- How many writes a plan has, and that an inverse's tells no deed, and what it answers.
+-- How many writes a plan has, and that an inverse's tells no deed, and what it replies.
 use Rattle.std.proofs.Common.{◌≡◌, ℕ, ◌+◌, ◌*◌, ◌≤◌, List, [], ◌∷◌, Bool, true, false, Option, None, Some, Ok, length, ap, arith}
 use Rattle.std.proofs.lemmas.List.{length-map, length-reverse}
 use Rattle.std.specs.Prelude.{reverse}
@@ -12,12 +12,12 @@ use Rattle.rq_model.specs.Deeds.{deed_by}
 use Rattle.rq_views.specs.Log.{Write}
 use Rattle.rq_views.specs.Plans.{relinked}
 use Rattle.rq_level.specs.LevelState.{LevelState}
-use Rattle.rq_level.specs.Ops.{Doing, Overwrite}
+use Rattle.rq_level.specs.Ops.{Doing}
 use Rattle.rq_level.specs.Ops.Doing.{Send, Receive, Close}
-use Rattle.rq_level.specs.Writes.{replied, reply_of, writes_of, write_of}
+use Rattle.rq_level.specs.Writes.{writes_of, write_of}
 use Rattle.rq_level.specs.ChainPlans.{Plans, PlansFor, Undoes, chain_undoes}
-use Rattle.rq_level.specs.PagePlans.{IsOneWrite, PlansWrite, WritesFor, TakesBack, is_slot_number, page_undoes}
-use Rattle.rq_level.specs.Asked.{answer_back}
+use Rattle.rq_level.specs.PagePlans.{IsOneWrite, TakesBack, is_slot_number, page_undoes}
+use Rattle.rq_level.specs.Asked.{reply_back}
 use Rattle.rq_level.specs.declared.slots.Given.{Given}
 use Rattle.rq_level.specs.declared.writes.Replies.TheVariants as replies
 use Rattle.rq_level.specs.declared.writes.Plan.{Plan}
@@ -72,14 +72,6 @@ single a before after [] h = absurd h
 single a before after (w ∷ []) h = omega arith
 single a before after (w ∷ v ∷ ws) h = absurd h
 
-one_planned : (k : LevelState) (w : Option Overwrite) (given : List Given) (p : Plan) (after : LevelState) → PlansWrite k w given (Ok p) after → length p.writes.items ≤ 3
-one_planned k None given p after h = absurd h
-one_planned k (Some w) given p after h = single _ _ _ p.writes.items h.0.plan.write
-
-pub few_written : (undo : Bool) (k : LevelState) (w : Option Overwrite) (given : List Given) (p : Plan) (after : LevelState) → WritesFor undo k w given (Ok p) after → length p.writes.items ≤ 3
-few_written true k w given p after h = absurd h
-few_written false k w given p after h = one_planned k w given p after h
-
 taken_back : (k : LevelState) (is : Bool) (a : ℕ) (before after : List ℕ) (p : Plan) (kept : LevelState) → TakesBack k is a before after (Ok p) kept → length p.writes.items ≤ 3
 taken_back k true a before after p kept h = single _ _ _ p.writes.items h.0.write
 taken_back k false a before after p kept h = absurd h
@@ -89,7 +81,7 @@ pub few_taken_back : (k : LevelState) (told : Record) (given : List Given) (latc
 few_taken_back k (records.PageOp t n page slot x y) given latched p after h = taken_back k (is_slot_number slot) (page * 16 + slot) x y p after h
 few_taken_back k _ given latched p after h = absurd h
 
--- an inverse tells no deed, and what its end answers
+-- an inverse tells no deed, and what its end replies
 silent : (z : Option Sizes) (d : Option Deed) (k : LevelState) (given : List Given) (latched : List ℕ) (p : Plan) (after : LevelState)
     → Undoes z d k given latched (Ok p) after → (p.deed ≡ []) × (p.reply ≡ replies.Undone)
 silent (Some z) (Some (Append s n tag previous body)) k given latched p after h = (h.inverse.deed, h.inverse.reply)
@@ -101,15 +93,15 @@ silent None (Some d) k given latched p after h = absurd h
 silent None None k given latched p after h = absurd h
 
 pub silent_undone : (k : LevelState) (told : Record) (given : List Given) (latched : List ℕ) (p : Plan) (after : LevelState)
-    → chain_undoes k told given latched (Ok p) after → (p.deed ≡ []) × (reply_of 1 p ≡ answer_back told)
-silent_undone k (records.OpEnd t n level deed) given latched p after h = let i = silent k.sizes (deed_by level deed) k given latched p after h in (i.0, ap (λ r. replied r (deed_by 1 p.deed)) i.1)
+    → chain_undoes k told given latched (Ok p) after → (p.deed ≡ []) × (p.reply ≡ reply_back told)
+silent_undone k (records.OpEnd t n level deed) given latched p after h = silent k.sizes (deed_by level deed) k given latched p after h
 silent_undone k _ given latched p after h = absurd h
 
-silent_back : (k : LevelState) (is : Bool) (a : ℕ) (before after : List ℕ) (p : Plan) (kept : LevelState) → TakesBack k is a before after (Ok p) kept → (p.deed ≡ []) × (reply_of 0 p ≡ None)
-silent_back k true a before after p kept h = (h.0.deed, ap (λ r. replied r None) h.0.reply)
+silent_back : (k : LevelState) (is : Bool) (a : ℕ) (before after : List ℕ) (p : Plan) (kept : LevelState) → TakesBack k is a before after (Ok p) kept → (p.deed ≡ []) × (p.reply ≡ replies.Nothing)
+silent_back k true a before after p kept h = (h.0.deed, h.0.reply)
 silent_back k false a before after p kept h = absurd h
 
 pub silent_taken_back : (k : LevelState) (told : Record) (given : List Given) (latched : List ℕ) (p : Plan) (after : LevelState)
-    → page_undoes k told given latched (Ok p) after → (p.deed ≡ []) × (reply_of 0 p ≡ answer_back told)
+    → page_undoes k told given latched (Ok p) after → (p.deed ≡ []) × (p.reply ≡ reply_back told)
 silent_taken_back k (records.PageOp t n page slot x y) given latched p after h = silent_back k (is_slot_number slot) (page * 16 + slot) x y p after h
 silent_taken_back k _ given latched p after h = absurd h

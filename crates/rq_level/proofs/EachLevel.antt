@@ -1,18 +1,17 @@
 -- Each level keeps its laws.
 use Rattle.std.proofs.Common.{◌≡◌, ◌≢◌, ℕ, zero, suc, ◌+◌, ◌*◌, nat_lt, Err, arith, List, [], ◌∷◌, Bool, true, false, cond, nat_eq, Option, None, Some, length, set, refl, sym, ap, ◌∙◌, inl, inr}
-use Rattle.std.proofs.lemmas.Bool.{cases_Bool, false≢true, le-ltb}
+use Rattle.std.proofs.lemmas.Bool.{cases_Bool, le-ltb}
 use Rattle.rq_page.specs.Pages.{lsn_of}
 use Rattle.std.proofs.lemmas.List.{length-set, set-set}
 use Rattle.rq_page.specs.Sizes.{Sizes, directory_at, place_of}
 use Rattle.rq_level.specs.LevelState.{LevelState, KnowsStore, noted, noted_in, noted_cell, is_cell_address, is_free_slot}
-use Rattle.rq_level.specs.Ops.{Doing, Overwrite, doing_by, overwrite_by}
-use Rattle.rq_level.specs.PagePlans.{write_wants, PlansWrite, WritesFor, CannotOverwrite, TakesBack, is_slot_number, page_undoes}
+use Rattle.rq_level.specs.Ops.{Doing, doing_by}
+use Rattle.rq_level.specs.PagePlans.{TakesBack, is_slot_number, page_undoes}
 use Rattle.rq_model.specs.declared.record.Record.{Record}
 use Rattle.rq_model.specs.declared.record.Record.TheVariants as records
 use Rattle.rq_model.specs.declared.refusal.Refusal.{Refusal}
 use Rattle.rq_model.specs.declared.refusal.Refusal.TheVariants as why
 use Rattle.rq_level.specs.Ops.Doing.{Send, Receive, Close}
-use Rattle.rq_level.specs.Given.{given_at}
 use Rattle.rq_level.specs.ChainPlans.{to_head, to_next, to_prev, to_tail, wanted, undo_wanted, Plans, PlansFor, Undoes, RefusesTaking, RefusesOther, CanSend, CanReceive, CanMark, CanUnlinkTail, CanPutBack, chain_undoes}
 use Rattle.rq_model.specs.Deeds.{deed_by}
 use Rattle.rq_model.specs.declared.record.Deed.{Deed}
@@ -20,10 +19,10 @@ use Rattle.rq_model.specs.declared.record.Deed.TheVariants.{Append, UnlinkHead, 
 use Rattle.rq_level.specs.Meaning.{Redo, IsAppliedOnce, meaning_of, page_meaning, chain_meaning, no_meaning}
 use Rattle.rq_level.specs.Lawful.{IsNotGiven, IsLawful, AllLawful, AppliedTwiceIsOnce, MayHaveNoPlan}
 use Rattle.rq_level.specs.declared.slots.Given.{Given}
-use Rattle.rq_level.proofs.Counted.{few_planned, few_undone, few_written, few_taken_back, silent_undone, silent_taken_back}
+use Rattle.rq_level.proofs.Counted.{few_planned, few_undone, few_taken_back, silent_undone, silent_taken_back}
 use Rattle.rq_level.proofs.Noting.{alone, any_order}
 use Rattle.rq_level.proofs.ChainLaws as chains
-use Rattle.rq_level.proofs.Gathered.{asks_along, unless}
+use Rattle.rq_level.proofs.Gathered.{asks_along}
 use Rattle.rq_level.proofs.Gathered as gathered
 use Rattle.rq_level.proofs.PageLaws as pages
 use Rattle.rq_level.proofs.TagLaws.{tags_lawful}
@@ -46,11 +45,6 @@ asks_undo given (Some (Mark c tag previous)) = tt
 asks_job : (given : List Given) (undo : Bool) (e : Option Deed) (d : Option Doing) → IsNotGiven given (cond undo (undo_wanted e given) (wanted d given))
 asks_job given true e d = asks_undo given e
 asks_job given false e d = asks_chain given d
-
-asks_page : (given : List Given) (undo : Bool) (w : Option Overwrite) → IsNotGiven given (cond undo None (write_wants w given))
-asks_page given true w = tt
-asks_page given false None = tt
-asks_page given false (Some w) = unless given w.at (given_at w.at given) refl
 
 cell_twice : (z : Sizes) (k : LevelState) (place : ℕ) (x y : Bool) → noted_cell z (noted_cell z k place x) place y ≡ noted_cell z k place y
 cell_twice z k place x y = ap (λ (f : List Bool). record k { free = f; reserved = set (set k.reserved place false) place false }) (set-set k.free place x y) ∙ ap (λ (r : List Bool). record k { free = set k.free place y; reserved = r }) (set-set k.reserved place false false)
@@ -125,16 +119,6 @@ refuses_record : (k : LevelState) (told : Record) (given : List Given) (latched 
 refuses_record k (records.OpEnd t n level deed) given latched r after h = refuses_back k.sizes (deed_by level deed) k given latched r after h
 refuses_record k _ given latched r after h = may_damage k r after h
 
-may_write : (given : List Given) (w : Overwrite) (r : Refusal) → CannotOverwrite given w r → MayHaveNoPlan r
-may_write given w why.NoMemory h = tt
-may_write given w (why.Damaged d) h = tt
-may_write given w why.Latched h = absurd h
-may_write given w _ h = absurd h
-
-refuses_write : (k : LevelState) (w : Option Overwrite) (given : List Given) (r : Refusal) (after : LevelState) → PlansWrite k w given (Err r) after → MayHaveNoPlan r × (after ≡ k)
-refuses_write k None given r after h = may_damage k r after h
-refuses_write k (Some w) given r after h = (may_write given w r h.0, h.1)
-
 refuses_taking : (k : LevelState) (is : Bool) (a : ℕ) (before after : List ℕ) (r : Refusal) (kept : LevelState) → TakesBack k is a before after (Err r) kept → MayHaveNoPlan r × (kept ≡ k)
 refuses_taking k true a before after why.NoMemory kept h = (tt, h)
 refuses_taking k true a before after _ kept h = absurd h
@@ -150,36 +134,32 @@ plans_for : (undo : Bool) (z : Option Sizes) (d : Option Doing) (k : LevelState)
 plans_for true z d k given latched r after h = may_damage k r after h
 plans_for false z d k given latched r after h = refuses_one z d k given latched r after h
 
-writes_for : (undo : Bool) (k : LevelState) (w : Option Overwrite) (given : List Given) (r : Refusal) (after : LevelState) → WritesFor undo k w given (Err r) after → MayHaveNoPlan r × (after ≡ k)
-writes_for true k w given r after h = may_damage k r after h
-writes_for false k w given r after h = refuses_write k w given r after h
-
 pages_lawful : IsLawful 0 page_meaning
 pages_lawful = record {
-  refuses = λ k job given latched r after h. writes_for job.undo k (overwrite_by job.level job.bytes) given r after h;
+  refuses = λ k job given latched r after h. may_damage k r after h;
   refuses_undo = refuses_page;
-  count = λ k job given latched p after h. few_written job.undo k (overwrite_by job.level job.bytes) given p after h;
+  count = λ k job given latched p after h. absurd h;
   count_undo = few_taken_back;
-  before = λ k job given latched p after h slots noted_so. pages.over k given latched p after job h;
+  before = λ k job given latched p after h. absurd h;
   before_undo = λ k told given latched p after h slots noted_so. pages.over_back k given latched p after told h;
-  holds = λ q k job given latched p after h knows slots as_is. pages.plan_holds k given latched p after q job h as_is;
+  holds = λ q k job given latched p after h. absurd h;
   holds_undo = λ q k told given latched p after h knows slots as_is stands. pages.back_holds k given latched p after q told h stands;
-  asked_is_written = λ k job given latched p after h. pages.plan_writes k given latched p after job h;
+  asked_is_written = λ k job given latched p after h. absurd h;
   asked_is_written_undo = λ k told given latched p after h. pages.back_writes k given latched p after told h;
-  spares = λ k job given latched p after h g noted_so ne. absurd (ne (pages.kept k given latched p after job h));
+  spares = λ k job given latched p after h. absurd h;
   spares_undo = λ k told given latched p after h g noted_so ne. absurd (ne (pages.back_kept k given latched p after told h));
-  takes = λ k job given latched p after h. pages.plan_takes k given latched p after job h;
+  takes = λ k job given latched p after h. absurd h;
   takes_undo = λ k told given latched p after h. pages.back_takes k given latched p after told h;
-  slots = λ k job given latched p after h read. absurd (false≢true read);
+  slots = λ k job given latched p after h. absurd h;
   slots_undo = λ k told given latched p after h. pages.back_slots k given latched p after told h;
-  asks = λ z job given. asks_page given job.undo (overwrite_by job.level job.bytes);
-  few = λ z job given h. gathered.few_written_over job.undo (overwrite_by job.level job.bytes) given h;
-  told = λ k job given latched p after h. inr (pages.tells_none k given latched p after job h);
+  asks = λ z job given. tt;
+  few = λ z job given h. gathered.few_asks_none given h;
+  told = λ k job given latched p after h. absurd h;
   silent = λ k told given latched p after h. (silent_taken_back k told given latched p after h).0;
-  replies = λ k job given latched p after h d told. cc told;
+  replies = λ k job given latched p after h. absurd h;
   replies_undo = λ k told given latched p after h. (silent_taken_back k told given latched p after h).1;
-  inverse = λ z d v q k job given latched p after h sizes told. cc told;
-  chooses = λ k job given latched p after h. chains.same_kept page_meaning p.writes.items after k (pages.kept k given latched p after job h);
+  inverse = λ z d v q k job given latched p after h. absurd h;
+  chooses = λ k job given latched p after h. absurd h;
   chooses_undo = λ k told given latched p after h. chains.same_kept page_meaning p.writes.items after k (pages.back_kept k given latched p after told h);
   last = λ k a x y. refl;
   commutes = λ k a b x y m n o. refl;
@@ -188,8 +168,7 @@ pages_lawful = record {
   no_others = no_sizes;
   stays = λ k z a x ne h. h;
   reads = there_is 0;
-  asked = λ bytes some. omega arith;
-  own = λ k job given latched p after h. pages.plan_own k given latched p after job h;
+  own = λ k job given latched p after h. absurd h;
   own_back = λ k told given latched p after h. pages.back_read k given latched p after told h;
 }
 
@@ -209,7 +188,7 @@ chains_lawful = record {
   spares_undo = chains.back_spares;
   takes = chains.plan_takes;
   takes_undo = chains.back_takes;
-  slots = λ k job given latched p after h read. chains.plan_slots k job given latched p after h;
+  slots = chains.plan_slots;
   slots_undo = chains.back_slots;
   asks = λ z job given. asks_job given job.undo (deed_by job.level job.bytes) (doing_by job.level job.bytes);
   few = λ z job given h. gathered.few_asked job.undo (deed_by job.level job.bytes) (doing_by job.level job.bytes) given h;
@@ -227,7 +206,6 @@ chains_lawful = record {
   no_others = λ k z y h told. (let is : Some y ≡ Some z = sym told ∙ h.sizes in cc);
   stays = stays_ready;
   reads = there_is 1;
-  asked = λ bytes some. omega arith;
   own = chains.plan_own;
   own_back = chains.back_read;
 }
@@ -266,7 +244,6 @@ none_lawful n = record {
   no_others = no_sizes;
   stays = λ k z a x ne h. h;
   reads = there_is n;
-  asked = λ bytes some. absurd (false≢true some);
   own = λ k job given latched p after h. absurd h;
   own_back = λ k told given latched p after h. absurd h;
 }

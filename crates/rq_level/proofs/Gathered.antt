@@ -21,10 +21,9 @@ use Rattle.rq_page.proofs.Addresses.{kind_directory, senders_have_slots}
 use Rattle.rq_level.specs.Asked.{AreWanted}
 use Rattle.rq_level.specs.ChainPlans.{Beside, Plans, Undoes, IsSent, IsReceived, IsTailUnlinked, IsReturned, unless_given, Link, along, along_from, asking, link_of, to_head, to_next, to_prev, to_tail, undo_wanted, wanted}
 use Rattle.rq_level.specs.Given.{GivenHolds, given_at}
-use Rattle.rq_level.specs.Ops.{Doing, Overwrite}
+use Rattle.rq_level.specs.Ops.{Doing}
 use Rattle.rq_level.specs.Ops.Doing.{Send, Receive, Close}
 use Rattle.rq_level.specs.Lawful.{IsNotGiven}
-use Rattle.rq_level.specs.PagePlans.{write_wants}
 use Rattle.rq_level.specs.TagPlans.{client_wanted}
 use Rattle.rq_level.specs.declared.slots.Given.{Given}
 use Rattle.rq_level.specs.LevelState.{LevelState}
@@ -154,11 +153,6 @@ few_undo (Some (Mark c tag previous)) = fewer 0 3 (λ l. None) (omega arith) non
 pub few_asked : (undo : Bool) (e : Option Deed) (d : Option Doing) (given : List Given) → AreWanted (λ l. cond undo (undo_wanted e l) (wanted d l)) [] given → length given ≤ 3
 few_asked true e d given h = few_undo e [] given h
 few_asked false e d given h = few_wanted d [] given h
-
-pub few_written_over : (undo : Bool) (w : Option Overwrite) (given : List Given) → AreWanted (λ l. cond undo None (write_wants w l)) [] given → length given ≤ 3
-few_written_over true w given h = fewer 0 3 (λ l. None) (omega arith) none_few [] given h
-few_written_over false None given h = fewer 0 3 (λ l. None) (omega arith) none_few [] given h
-few_written_over false (Some w) given h = fewer 1 3 _ (omega arith) (few_unless w.at) [] given h
 
 pub few_of_client : (z : Option Sizes) (c : Option ℕ) (given : List Given) → AreWanted (client_wanted z c) [] given → length given ≤ 3
 few_of_client None c given h = fewer 0 3 (λ l. None) (omega arith) none_few [] given h

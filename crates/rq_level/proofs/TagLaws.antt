@@ -1,5 +1,5 @@
 -- The level of tags keeps the laws of levels.
-use Rattle.std.proofs.Common.{◌≡◌, ◌≢◌, ℕ, ◌+◌, ◌-◌, ◌/◌, ◌%◌, ◌≤◌, List, [], ◌∷◌, length, Bool, true, false, cond, nat_eq, Option, None, Some, Ok, Err, map, reverse, All, refl, sym, ap, ◌∙◌, subst, inl, inr, arith}
+use Rattle.std.proofs.Common.{◌≡◌, ◌≢◌, ℕ, ◌+◌, ◌-◌, ◌/◌, ◌%◌, ◌<◌, ◌≤◌, List, [], ◌∷◌, length, Bool, true, false, cond, nat_eq, Option, None, Some, Ok, Err, map, reverse, All, refl, sym, ap, ◌∙◌, subst, inl, inr, arith}
 use Rattle.std.proofs.lemmas.Bool.{cases_Bool, false≢true, ne_eqb}
 use Rattle.std.proofs.lemmas.List.{length-append, length-map, length-reverse}
 use Rattle.std.proofs.lemmas.List.Elements.{All-cons, All-nil, All-weaker, recursion_from_All}
@@ -26,18 +26,18 @@ use Rattle.rq_views.proofs.Counting.{length_but_last}
 use Rattle.rq_views.proofs.Inverses.{inverses_leave}
 use Rattle.rq_views.proofs.Overlay.{put_at}
 use Rattle.rq_views.proofs.Tags.{tag_stays}
-use Rattle.rq_level.specs.Asked.{AreWanted, TellsDeedOf, answer_back, job_back, AreOver, AreBackOver, AreWritten, AreAsGiven, AreOverSlots, Chooses, ChoosesBack, AreOfSlots, AreBackOfSlots, IsOver, written_at}
+use Rattle.rq_level.specs.Asked.{AreWanted, TellsDeedOf, reply_back, job_back, AreOver, AreBackOver, AreWritten, AreAsGiven, AreOverSlots, Chooses, ChoosesBack, AreOfSlots, AreBackOfSlots, IsOver, written_at}
 use Rattle.rq_level.specs.Given.{GivenHolds, HoldsBytes, IsGiven, given_at}
 use Rattle.rq_level.specs.Lawful.{IsLawful, IsUntouchedAt, MayHaveNoPlan}
 use Rattle.rq_level.specs.LevelState.{LevelState}
-use Rattle.rq_level.specs.Meaning.{AreOf, tag_meaning}
+use Rattle.rq_level.specs.Meaning.{AreOf, level_count, tag_meaning}
 use Rattle.rq_level.specs.Ops.{Job, Tagging, tagging_by, tagging_in}
 use Rattle.rq_level.specs.TagPlans.{CanTag, CanUntag, IsTagPlan, IsUntagPlan, PlansTag, RefusesTag, TagsFor, UndoesTag, client_marked, client_to_mark, client_wanted, tag_note, tag_plans, tag_undoes, tag_wants}
 use Rattle.rq_level.specs.TakenBack.{AreOverHeld, LeadsBack, LeavesAt, LeavesOthers, ShowsOf, newest_first}
 use Rattle.std.proofs.lemmas.Option.{same_Some}
 use Rattle.rq_level.specs.declared.writes.Replies.TheVariants as replies
 use Rattle.rq_level.specs.Gists.{gist_of}
-use Rattle.rq_level.specs.Writes.{AreSlotWrites, IsSlotWrite, replied, reply_of, write_of, writes_of}
+use Rattle.rq_level.specs.Writes.{AreSlotWrites, IsSlotWrite, write_of, writes_of}
 use Rattle.rq_level.specs.declared.slots.Given.{Given}
 use Rattle.rq_level.specs.declared.writes.Plan.{Plan}
 use Rattle.rq_level.specs.declared.writes.SlotWrite.{SlotWrite}
@@ -149,7 +149,7 @@ module _ (k : LevelState) (given : List Given) (p : Plan) (after : LevelState) w
     takes z w told i e = absurd (subst (HoldsBytes m.sizes m.write.at (Client m.held)) (sym (ap (λ (x : SlotWrite). given_at x.at given) (one w i)) ∙ e) m.holds)
 
     of_slots : AreOfSlots k p
-    of_slots z told = of_all (IsSlotWrite z) (subst (λ y. IsSlotWrite y m.write) (let is : Some m.sizes ≡ Some z = sym m.told ∙ told in cc) m.slot)
+    of_slots = record { sizes = m.sizes; told = m.told; are = of_all (IsSlotWrite m.sizes) m.slot }
 
     few_writes : length p.writes.items ≤ 3
     few_writes = omega (arith, ap length m.all)
@@ -176,6 +176,10 @@ module _ (k : LevelState) (given : List Given) (p : Plan) (after : LevelState) w
   marks false None (Some t) h = absurd h
   marks false None None h = absurd h
 
+  does : (undo : Bool) (z : Option Sizes) (t : Option Tagging) → TagsFor undo z t k given (Ok p) after → undo ≡ false
+  does true z t h = absurd h
+  does false z t h = refl
+
   tells : (job : Job) (latched : List ℕ) → tag_plans k job given latched (Ok p) after → is_some (deed_by 2 p.deed) ≡ true
   tells job latched h = ap is_some (marks job.undo k.sizes (tagging_by job.level job.bytes) h).4.reads
 
@@ -184,8 +188,10 @@ module _ (k : LevelState) (given : List Given) (p : Plan) (after : LevelState) w
       let m = (marks job.undo k.sizes (tagging_by job.level job.bytes) h).4 in
       m.reply ∙ ap (λ x. replies.Deed (gist_of x)) (same_Some _ d (sym m.reads ∙ told))
 
-  plan_own : (job : Job) (latched : List ℕ) → tag_plans k job given latched (Ok p) after → (job.level ≡ 2) × (tag_meaning.asks job.bytes ≡ true)
-  plan_own job latched h = read_of 2 job.level (tagging_in job.bytes) (ap is_some (marks job.undo k.sizes (tagging_by job.level job.bytes) h).3)
+  plan_own : (job : Job) (latched : List ℕ) → tag_plans k job given latched (Ok p) after → (job.level ≡ 2) × (job.undo ≡ false) × (2 < level_count)
+  plan_own job latched h =
+      let m = marks job.undo k.sizes (tagging_by job.level job.bytes) h in
+      (read_of 2 job.level (tagging_in job.bytes) (ap is_some m.3), does job.undo k.sizes (tagging_by job.level job.bytes) h, omega arith)
 
   -- what takes something back is of a mark that its end tells
   unmarks : (z : Option Sizes) (d : Option Deed) → UndoesTag z d k given (Ok p) after → (y : Sizes) × (c : ℕ) × (tag : ℕ) × (previous : ℕ) × (d ≡ Some (Mark c tag previous)) × IsUntagPlan y k given c tag previous p after
@@ -197,10 +203,10 @@ module _ (k : LevelState) (given : List Given) (p : Plan) (after : LevelState) w
   unmarks None (Some d) h = absurd h
   unmarks None None h = absurd h
 
-  silent : (told : Record) (latched : List ℕ) → tag_undoes k told given latched (Ok p) after → (p.deed ≡ []) × (reply_of 2 p ≡ answer_back told)
+  silent : (told : Record) (latched : List ℕ) → tag_undoes k told given latched (Ok p) after → (p.deed ≡ []) × (p.reply ≡ reply_back told)
   silent (records.OpEnd t n level deed) latched h =
       let m = (unmarks k.sizes (deed_by level deed) h).5 in
-      (m.inverse.deed, ap (λ r. replied r (deed_by 2 p.deed)) m.inverse.reply)
+      (m.inverse.deed, m.inverse.reply)
   silent _ latched h = absurd h
 
   back_own : (told : Record) (latched : List ℕ) → tag_undoes k told given latched (Ok p) after → TellsDeedOf 2 told
@@ -372,11 +378,11 @@ tags_lawful = record {
   spares_undo = λ k told given latched p after h g noted_so ne. absurd (ne (backed k given p after told latched h).kept);
   takes = λ k job given latched p after h. takes k given p after _ (planned k given p after job latched h);
   takes_undo = λ k told given latched p after h. takes_back k given p after told latched h;
-  slots = λ k job given latched p after h read. of_slots k given p after _ (planned k given p after job latched h);
+  slots = λ k job given latched p after h. of_slots k given p after _ (planned k given p after job latched h);
   slots_undo = λ k told given latched p after h. slots_back k given p after told latched h;
   asks = λ z job given. asks_client given z (cond job.undo (client_marked (deed_by job.level job.bytes)) (client_to_mark (tagging_by job.level job.bytes)));
   few = λ z job given h. few_of_client z (cond job.undo (client_marked (deed_by job.level job.bytes)) (client_to_mark (tagging_by job.level job.bytes))) given h;
-  told = λ k job given latched p after h. inl (tells k given p after job latched h);
+  told = λ k job given latched p after h. tells k given p after job latched h;
   silent = λ k told given latched p after h. (silent k given p after told latched h).0;
   replies = λ k job given latched p after h. answers k given p after job latched h;
   replies_undo = λ k told given latched p after h. (silent k given p after told latched h).1;
@@ -390,7 +396,6 @@ tags_lawful = record {
   no_others = λ k z y h told. (let is : Some y ≡ Some z = sym told ∙ h in cc);
   stays = λ k z a x ne h. ap (λ (l : LevelState). l.sizes) (note_far k a x ne) ∙ h;
   reads = there_is 2;
-  asked = λ bytes some. omega arith;
   own = λ k job given latched p after h. plan_own k given p after job latched h;
   own_back = λ k told given latched p after h. back_own k given p after told latched h;
 }

@@ -19,9 +19,9 @@ there_is n bytes some = elim (cases_Bool (nat_eq n 1)) [
 ]
 
 -- what the level of a number reads is read where that is the number
-pub read_of : {X : Type 0} (m n : ℕ) (o : Option X) → is_some (cond (nat_eq n m) o None) ≡ true → (n ≡ m) × (is_some o ≡ true)
+pub read_of : {X : Type 0} (m n : ℕ) (o : Option X) → is_some (cond (nat_eq n m) o None) ≡ true → n ≡ m
 read_of m n o some = elim (cases_Bool (nat_eq n m)) [
-  | inl y ↦ (eqb-true n m y, ap (λ b. is_some (cond b o None)) (sym y) ∙ some)
+  | inl y ↦ eqb-true n m y
   | inr other ↦ absurd (false≢true (sym (ap (λ b. is_some (cond b o None)) other) ∙ some))
 ]
 

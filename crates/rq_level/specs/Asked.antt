@@ -16,9 +16,9 @@ use Rattle.rq_level.specs.PagePlans.{IsOneWrite}
 use Rattle.rq_level.specs.Writes.{AreSlotWrites}
 use Rattle.rq_level.specs.Meaning.{Meaning}
 use Rattle.rq_level.specs.declared.slots.Given.{Given}
-use Rattle.rq_level.specs.declared.writes.Outcome.{Outcome}
-use Rattle.rq_level.specs.declared.writes.Outcome.TheVariants as gives
 use Rattle.rq_level.specs.declared.writes.Plan.{Plan}
+use Rattle.rq_level.specs.declared.writes.Replies.{Replies}
+use Rattle.rq_level.specs.declared.writes.Replies.TheVariants as replies
 use Rattle.rq_level.specs.declared.writes.SlotWrite.{SlotWrite}
 
 -- each of the later slots was asked for, given those before it
@@ -30,32 +30,29 @@ AreWanted want front (g ∷ gs) = (want front ≡ Some g.at) × AreWanted want (
 abbrev pub IsGathered : Meaning → Option Sizes → Job → List Given → Type 0
 IsGathered m z job given = AreWanted (m.want z job) [] given
 
--- to take back what a deed of a level tells
-abbrev pub to_take_back : (level : ℕ) → List ℕ → Job
-to_take_back level deed = record { level = level; undo = true; bytes = deed }
-
 -- the operation that slots are asked for before a record is taken back
 abbrev pub job_back : Record → Job
-job_back (OpEnd t n level deed) = to_take_back level deed
-job_back _ = to_take_back 0 []
+job_back (OpEnd t n level deed) = record { level = level; undo = true; bytes = deed }
+job_back _ = record { level = 0; undo = true; bytes = [] }
 
 -- the deed that it tells, if it tells one
 abbrev pub deed_back : Record → Option Deed
 deed_back told = deed_by (job_back told).level (job_back told).bytes
 
--- an end tells a deed of the level of this number
+-- the record is an end that tells a deed of the level of this number, or a slot write where that is 0
 abbrev pub TellsDeedOf : (level : ℕ) → Record → Type 0
 TellsDeedOf l (OpEnd t n level deed) = (level ≡ l) × (is_some (deed_by l deed) ≡ true)
-TellsDeedOf l _ = Unit {0}
+TellsDeedOf l (PageOp t n page slot x y) = l ≡ 0
+TellsDeedOf l _ = ⊥
 
 -- what was given was noted so
 abbrev pub AreNoted : Meaning → LevelState → List Given → Type 0
 AreNoted m k given = All (λ g. m.note k g.at g.bytes ≡ k) given
 
--- the end of what takes an operation back answers that it is undone; what takes a slot write back has no such end
-abbrev pub answer_back : Record → Option Outcome
-answer_back (OpEnd t n level deed) = Some gives.Undone
-answer_back _ = None
+-- the end of what takes an operation back replies that it is undone; what takes a slot write back has no such end
+abbrev pub reply_back : Record → Replies
+reply_back (OpEnd t n level deed) = replies.Undone
+reply_back _ = replies.Nothing
 
 -- the write is of the lowest cell that may be taken, over the bytes of a free one
 pub record TakesCell (k : LevelState) (latched : List ℕ) (w : SlotWrite) : Type 0 where
@@ -135,9 +132,11 @@ abbrev pub ChoosesBack : Record → LevelState → List Given → LevelState →
 ChoosesBack (PageOp t n page slot x y) k given after p = after ≡ k
 ChoosesBack _ k given after p = Chooses k given after p
 
--- the writes are of slots of the store, and leave there what may stand there
-abbrev pub AreOfSlots : LevelState → Plan → Type 0
-AreOfSlots k p = (z : Sizes) → k.sizes ≡ Some z → AreSlotWrites z p.writes.items
+-- the level was told a store, whose slots the writes are of, and they leave there what may stand there
+pub record AreOfSlots (k : LevelState) (p : Plan) : Type 0 where
+  pub sizes : Sizes
+  pub told : k.sizes ≡ Some sizes
+  pub are : AreSlotWrites sizes p.writes.items
 
 -- of what takes an operation back
 abbrev pub AreBackOfSlots : Record → LevelState → Plan → Type 0

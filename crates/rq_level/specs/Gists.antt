@@ -13,7 +13,7 @@ gist_of (deeds.UnlinkHead sender sequence tag body) = UnlinkHead sender
 gist_of (deeds.Close sender) = Close sender
 gist_of (deeds.Mark client tag previous) = Mark client tag
 
--- by what the end of an operation replies
+-- what is counted, by what the end of an operation replies
 abbrev pub counted : Replies → Option Gist
 counted (replies.Deed gist) = Some gist
 counted _ = None

@@ -1,5 +1,5 @@
 -- What every level keeps to, whatever its number.
-use Rattle.std.specs.Prelude.{◌≡◌, ◌≢◌, ◌<◌, ◌≤◌, ◌⊎◌, ℕ, Bool, true, false, List, [], Option, None, Some, Err, length}
+use Rattle.std.specs.Prelude.{◌≡◌, ◌≢◌, ◌<◌, ◌≤◌, ℕ, Bool, true, false, List, [], Option, None, Some, Err, length}
 use Rattle.rq_model.specs.declared.record.Record.{Record}
 use Rattle.rq_model.specs.declared.refusal.Refusal.{Refusal}
 use Rattle.rq_model.specs.declared.refusal.Refusal.TheVariants as why
@@ -15,8 +15,7 @@ use Rattle.rq_level.specs.LevelState.{LevelState, flag_at}
 use Rattle.rq_level.specs.Ops.{Job}
 use Rattle.rq_level.specs.Given.{given_at}
 use Rattle.rq_level.specs.Gists.{gist_of}
-use Rattle.rq_level.specs.Writes.{reply_of}
-use Rattle.rq_level.specs.Asked.{IsGathered, job_back, answer_back, TellsDeedOf, AreNoted, AreOver, AreBackOver, AreWritten, AsksForNone, Knows, AreAsGiven, StandsYet, AreOverSlots, Chooses, ChoosesBack, MayChoose, AreOfSlots, AreBackOfSlots}
+use Rattle.rq_level.specs.Asked.{IsGathered, job_back, reply_back, TellsDeedOf, AreNoted, AreOver, AreBackOver, AreWritten, AsksForNone, Knows, AreAsGiven, StandsYet, AreOverSlots, Chooses, ChoosesBack, MayChoose, AreOfSlots, AreBackOfSlots}
 use Rattle.rq_level.specs.OwnState.{OwnStateIsAnew}
 use Rattle.rq_level.specs.TakenBack.{AreOverHeld, LeavesOthers, ShowsOf, newest_first}
 use Rattle.rq_level.specs.Meaning.{Meaning, OfPlans, OfBacks, AreOf, Redo, AppliesOnce, level_count, meaning_of}
@@ -70,20 +69,19 @@ pub record IsLawful (n : ℕ) (m : Meaning) : Type 0 where
   -- a slot that it writes and did not ask for is the cell that it chooses
   pub takes : OfPlans m (λ k job given latched p after. Chooses k given after p)
   pub takes_undo : OfBacks m (λ k told given latched p after. ChoosesBack told k given after p)
-  -- the writes of a plan that tells a deed are of slots of the store, and so are those of what takes it back
-  pub slots : OfPlans m (λ k job given latched p after. is_some (deed_by n p.deed) ≡ true → AreOfSlots k p)
+  -- the writes of a plan are of slots of the store that the level was told, and so are those of what takes it back
+  pub slots : OfPlans m (λ k job given latched p after. AreOfSlots k p)
   pub slots_undo : OfBacks m (λ k told given latched p after. AreBackOfSlots told k p)
   -- it asks for no slot twice, and for three at most
   pub asks : (z : Option Sizes) (job : Job) (given : List Given) → IsNotGiven given (m.want z job given)
   pub few : (z : Option Sizes) (job : Job) (given : List Given) → IsGathered m z job given → length given ≤ 3
-  -- a plan tells a deed that the level reads, or none, and then has no reply; what takes something back tells none
-  pub told : OfPlans m (λ k job given latched p after. (is_some (deed_by n p.deed) ≡ true)
-      ⊎ ((p.deed ≡ []) × (reply_of n p ≡ None)))
+  -- a plan tells a deed that the level reads; what takes something back tells none
+  pub told : OfPlans m (λ k job given latched p after. is_some (deed_by n p.deed) ≡ true)
   pub silent : OfBacks m (λ k told given latched p after. p.deed ≡ [])
   -- a plan replies what its deed tells, with what is counted of that; what takes an operation back, that it is undone
   pub replies : OfPlans m (λ k job given latched p after. (d : Deed) → deed_by n p.deed ≡ Some d
       → p.reply ≡ replies.Deed (gist_of d))
-  pub replies_undo : OfBacks m (λ k told given latched p after. reply_of n p ≡ answer_back told)
+  pub replies_undo : OfBacks m (λ k told given latched p after. p.reply ≡ reply_back told)
   -- a plan does to its group what its deed tells. What takes that back leaves what was done meanwhile on the other end.
   -- Neither changes another group
   pub inverse : (z : Sizes) (d : Deed) (v : View) (q : Slots) → OfPlans m (λ k job given latched p after. k.sizes ≡ Some z
@@ -106,11 +104,11 @@ pub record IsLawful (n : ℕ) (m : Meaning) : Type 0 where
   -- one that is ready for a store was told no other sizes, and stays ready when a slot is noted
   pub no_others : (k : LevelState) (z y : Sizes) → m.ready z k → k.sizes ≡ Some y → y ≡ z
   pub stays : (k : LevelState) (z : Sizes) (a : ℕ) (x : List ℕ) → a ≢ 1 → m.ready z k → m.ready z (m.note k a x)
-  -- bytes that are a deed, or ask for something, are of a level that there is
+  -- bytes that are a deed are of a level that there is
   pub reads : (bytes : List ℕ) → is_some (deed_by n bytes) ≡ true → n < level_count
-  pub asked : (bytes : List ℕ) → m.asks bytes ≡ true → n < level_count
-  -- what it plans is asked of it, and what it takes back tells one of its deeds
-  pub own : OfPlans m (λ k job given latched p after. (job.level ≡ n) × (m.asks job.bytes ≡ true))
+  -- what it plans is a job of its number that is to be done, and there is such a level
+  pub own : OfPlans m (λ k job given latched p after. (job.level ≡ n) × (job.undo ≡ false) × (n < level_count))
+  -- what it takes back tells one of its deeds, or is a slot write of level 0
   pub own_back : OfBacks m (λ k told given latched p after. TellsDeedOf n told)
 
 -- a record that is applied again to its page changes nothing

@@ -3,14 +3,13 @@ use Rattle.std.specs.Prelude.{◌≡◌, ◌≢◌, ℕ, zero, suc, ◌+◌, ◌
 use Rattle.rq_model.specs.declared.record.Record.{Record}
 use Rattle.rq_model.specs.declared.record.Record.TheVariants.{PageOp, PageUndo}
 use Rattle.rq_model.specs.declared.refusal.Refusal.{Refusal}
-use Rattle.rq_model.specs.Vocabulary.{is_some}
 use Rattle.rq_page.specs.Pages.{lsn_of, IsWritten}
 use Rattle.rq_page.specs.Formatted.{IsHeaderOf}
 use Rattle.rq_level.specs.LevelState.{LevelState, KnowsStore, nothing_kept, noted}
-use Rattle.rq_level.specs.Ops.{Job, doing_in, overwrite_in, tagging_in}
+use Rattle.rq_level.specs.Ops.{Job}
 use Rattle.rq_level.specs.Given.{AreGiven}
 use Rattle.rq_level.specs.ChainPlans.{RefusesUnread, chain_plans, chain_undoes, job_wanted}
-use Rattle.rq_level.specs.PagePlans.{page_plans, page_undoes, page_wants}
+use Rattle.rq_level.specs.PagePlans.{page_undoes}
 use Rattle.rq_level.specs.TagPlans.{tag_note, tag_plans, tag_undoes, tag_wants}
 use Rattle.rq_level.specs.declared.level.Want.{Want}
 use Rattle.rq_level.specs.declared.level.Want.TheVariants as wants
@@ -19,8 +18,6 @@ use Rattle.rq_level.specs.declared.writes.Plan.{Plan}
 use Rattle.rq_page.specs.Sizes.{Sizes}
 
 pub record Meaning : Type 1 where
-  -- whether bytes ask it for something
-  pub asks : List ℕ → Bool
   -- the slot that it asks for next, of a store whose sizes it was told, if it asks for one
   pub want : Option Sizes → Job → List Given → Option ℕ
   -- what it may answer to an operation that is to be planned, and what it keeps then
@@ -52,7 +49,6 @@ OfBacks m P = (k : LevelState) (told : Record) (given : List Given) (latched : L
 
 abbrev pub chain_meaning : Meaning
 chain_meaning = record {
-  asks = λ bytes. is_some (doing_in bytes);
   want = λ z. job_wanted;
   plans = chain_plans;
   undoes = chain_undoes;
@@ -60,19 +56,8 @@ chain_meaning = record {
   ready = KnowsStore;
 }
 
-abbrev pub page_meaning : Meaning
-page_meaning = record {
-  asks = λ bytes. is_some (overwrite_in bytes);
-  want = λ z. page_wants;
-  plans = page_plans;
-  undoes = page_undoes;
-  note = λ k a bytes. k;
-  ready = λ z k. k.sizes ≡ None;
-}
-
 abbrev pub tag_meaning : Meaning
 tag_meaning = record {
-  asks = λ bytes. is_some (tagging_in bytes);
   want = tag_wants;
   plans = tag_plans;
   undoes = tag_undoes;
@@ -80,16 +65,18 @@ tag_meaning = record {
   ready = λ z k. k.sizes ≡ Some z;
 }
 
--- a level without a meaning refuses everything
+-- a level without a meaning wants and keeps nothing, and refuses everything
 abbrev pub no_meaning : Meaning
 no_meaning = record {
-  asks = λ bytes. false;
   want = λ z job given. None;
   plans = λ k job given latched answer after. RefusesUnread k answer after;
   undoes = λ k r given latched answer after. RefusesUnread k answer after;
   note = λ k a bytes. k;
   ready = λ z k. k.sizes ≡ None;
 }
+
+abbrev pub page_meaning : Meaning
+page_meaning = record no_meaning { undoes = page_undoes }
 
 -- what the level of this number is
 unfoldable pub meaning_of : ℕ → Meaning

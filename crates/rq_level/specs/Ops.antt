@@ -1,5 +1,5 @@
 -- Operations to be planned, as bytes that their level alone reads.
-use Rattle.std.specs.Prelude.{ℕ, ◌+◌, ◌/◌, ◌%◌, ◌^◌, ◌&&◌, not, cond, nat_eq, nat_lt, Bool, false, List, [], ◌∷◌, ◌++◌, Option, None, Some, length, drop}
+use Rattle.std.specs.Prelude.{ℕ, ◌+◌, ◌&&◌, not, cond, nat_eq, nat_lt, Bool, false, List, [], ◌∷◌, ◌++◌, Option, None, Some, length, drop}
 use Rattle.byteorder.specs.Endian.{big_bytes, big_number}
 
 -- what is to be planned: of a level, something to do or a deed to take back
@@ -51,29 +51,6 @@ doing_level (Close s) = 1
 -- to do this on its level
 abbrev pub chain_job : Doing → Job
 chain_job d = record { level = doing_level d; undo = false; bytes = spelled_doing d }
-
--- what the level of single slots can be asked to do: to have a slot hold these bytes
-pub record Overwrite : Type 0 where
-  pub at : ℕ
-  pub after : List ℕ
-
-abbrev pub is_slot_address : ℕ → Bool
-is_slot_address a = nat_lt 0 (a % 16) && nat_lt (a / 16) (2 ^ 32)
-
--- what these bytes ask that level for: an address of a slot, and a slot's bytes
-abbrev pub overwrite_in : List ℕ → Option Overwrite
-overwrite_in bytes =
-    cond (nat_eq (length bytes) 264 && is_slot_address (big_number 8 bytes))
-    (Some (record { at = big_number 8 bytes; after = drop 8 bytes }))
-    None
-
--- what they ask the level of this number for: that of single slots is asked so
-abbrev pub overwrite_by : (level : ℕ) → List ℕ → Option Overwrite
-overwrite_by level bytes = cond (nat_eq level 0) (overwrite_in bytes) None
-
--- to do this on the level of single slots
-abbrev pub page_job : ℕ → List ℕ → Job
-page_job a after = record { level = 0; undo = false; bytes = big_bytes 8 a ++ after }
 
 -- what the level of tags can be asked to do: to mark a tag for a client
 pub record Tagging : Type 0 where

@@ -1,17 +1,13 @@
 -- Slot writes of a plan, as writes over what the slots hold, and what a deed's end answers.
-use Rattle.std.specs.Prelude.{◌≡◌, ℕ, ◌/◌, ◌%◌, List, [], ◌∷◌, Option, None, Some, map, option_map, All}
+use Rattle.std.specs.Prelude.{◌≡◌, ℕ, ◌/◌, ◌%◌, List, [], ◌∷◌, map, All}
 use Rattle.rq_model.specs.declared.record.Deed.{Deed}
 use Rattle.rq_model.specs.declared.record.Deed.TheVariants.{Append, UnlinkHead, Close, Mark}
-use Rattle.rq_model.specs.Deeds.{deed_by}
 use Rattle.rq_page.specs.Sizes.{Sizes}
 use Rattle.rq_page.specs.Slots.{held_in, IsSlotOf}
 use Rattle.rq_views.specs.Log.{Write}
 use Rattle.rq_views.specs.Stored.{IsStoreSlot}
 use Rattle.rq_level.specs.declared.writes.Outcome.{Outcome}
 use Rattle.rq_level.specs.declared.writes.Outcome.TheVariants as gives
-use Rattle.rq_level.specs.declared.writes.Plan.{Plan}
-use Rattle.rq_level.specs.declared.writes.Replies.{Replies}
-use Rattle.rq_level.specs.declared.writes.Replies.TheVariants as replies
 use Rattle.rq_level.specs.declared.writes.SlotWrite.{SlotWrite}
 
 -- the write, over what the slot holds
@@ -41,12 +37,3 @@ answer_of (Append s n tag previous body) = gives.Sent
 answer_of (UnlinkHead s n tag body) = gives.Message (record { sender = s; tag = tag; body = body })
 answer_of (Close s) = gives.Closed
 answer_of (Mark c tag previous) = gives.Marked
-
-abbrev pub replied : Replies → Option Deed → Option Outcome
-replied replies.Nothing told = None
-replied (replies.Deed gist) told = option_map answer_of told
-replied replies.Undone told = Some gives.Undone
-
--- what the end of an operation replies that the level of this number planned
-abbrev pub reply_of : (level : ℕ) → Plan → Option Outcome
-reply_of level p = replied p.reply (deed_by level p.deed)

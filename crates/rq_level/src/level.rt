@@ -1,14 +1,15 @@
 //! The interface of a level of recovery.
-ghost use Rattle.std.specs.Prelude.{◌≡◌, ◌≤◌, ℕ, false};
+ghost use Rattle.std.specs.Prelude.{◌≡◌, ◌≤◌, ℕ, false, option_map};
 ghost use Rattle.rq_model.specs.Deeds.{deed_by};
 ghost use Rattle.rq_model.specs.Vocabulary.{is_some};
 ghost use Rattle.rq_level.specs.LevelState.{LevelState};
 ghost use Rattle.rq_level.specs.Lawful.{AllKeepAnew, AllLawful, AppliedTwiceIsOnce};
+ghost use Rattle.rq_level.specs.Writes.{answer_of};
 ghost use Rattle.rq_level.specs.Meaning.{meaning_of, wish, AreOf, redo_of, AppliesOnce, IsRedo, IsAppliedOnce, NotesNothing};
 
 use crate::op::Op;
 use crate::slots::{PageSet, Slots};
-use crate::writes::{Plan, SlotWrite};
+use crate::writes::{Outcome, Plan, SlotWrite};
 use rq_model::record::{Record, Slot};
 use rq_model::refusal::Refusal;
 use rq_model::txn::Lsn;
@@ -39,6 +40,11 @@ pub trait Level: Drop {
     /// Whether these bytes are a deed of this level. Takes no memory.
     fn reads(&self, deed: &[u8]) -> bool
         ensures { result ≡ is_some (deed_by (level self.now) deed.now) };
+
+    /// What the end of an operation answers whose deed these bytes are; none where they are no deed of this level. Takes no
+    /// memory.
+    fn outcome(&self, deed: &[u8]) -> Option<Outcome>
+        ensures { result ≡ option_map answer_of (deed_by (level self.now) deed.now) };
 
     /// Whether it keeps anything of the slots that it is told of, but for what slot 1 of the first page tells.
     fn keeps(&self) -> bool
@@ -98,6 +104,10 @@ impl Level for Box<dyn Level + Send> {
 
     fn reads(&self, deed: &[u8]) -> bool {
         (**self).reads(deed)
+    }
+
+    fn outcome(&self, deed: &[u8]) -> Option<Outcome> {
+        (**self).outcome(deed)
     }
 
     fn keeps(&self) -> bool {

@@ -1,14 +1,15 @@
 //! All levels of a store.
-ghost use Rattle.std.specs.Prelude.{◌≡◌, ℕ, ◌<◌, ◌≤◌, length, map, slice_set};
+ghost use Rattle.std.specs.Prelude.{◌≡◌, ℕ, ◌<◌, ◌≤◌, length, map, option_map, slice_set};
 ghost use Rattle.rq_model.specs.Deeds.{deed_by};
 ghost use Rattle.rq_model.specs.Vocabulary.{is_some};
 ghost use Rattle.rq_level.specs.LevelState.{LevelState};
+ghost use Rattle.rq_level.specs.Writes.{answer_of};
 ghost use Rattle.rq_level.specs.Meaning.{meaning_of, wish, AreOf, redo_of, AppliesOnce, AreTold, IsRedo, KeepsNothingAt, NotesNothing, kept_at, CountOn};
 
 use crate::level::{Level, Want};
 use crate::op::Op;
 use crate::slots::{PageSet, Slots};
-use crate::writes::{Plan, SlotWrite};
+use crate::writes::{Outcome, Plan, SlotWrite};
 use rq_model::record::{Record, Slot};
 use rq_model::refusal::Refusal;
 use rq_model::txn::Lsn;
@@ -65,6 +66,14 @@ impl<B: Level> Levels<B> {
         ensures { result ≡ is_some (deed_by level deed.now) }
     {
         self.all[level].reads(deed)
+    }
+
+    /// What the end of an operation of the level answers, by the bytes of its deed; none where they are no deed.
+    pub fn outcome(&self, level: usize, deed: &[u8]) -> Option<Outcome>
+        requires { level < length self.now }
+        ensures { result ≡ option_map answer_of (deed_by level deed.now) }
+    {
+        self.all[level].outcome(deed)
     }
 
     /// What the level needs to see next.

@@ -1,13 +1,12 @@
 //! Operations to be planned.
-ghost use Rattle.std.specs.Prelude.{◌≡◌, ◌++◌, IfOk, Some, length, ◌≤◌, ◌<◌, ◌/◌, ◌%◌, ◌^◌, true, false};
+ghost use Rattle.std.specs.Prelude.{◌≡◌, ◌++◌, IfOk, Some, length, ◌≤◌};
 ghost use Rattle.rq_level.specs.Asked.{job_back};
-ghost use Rattle.rq_level.specs.Ops.{Job, doing_by, chain_job, Send, Receive, Close, page_job, overwrite_by, tag_job, tagging_by};
+ghost use Rattle.rq_level.specs.Ops.{Job, doing_by, chain_job, Send, Receive, Close, tag_job, tagging_by};
 
 use byteorder::{BigEndian, ByteOrder};
 use rq_bytes::end::put;
-use rq_model::record::{Record, Slot};
+use rq_model::record::Record;
 use rq_model::refusal::NoMemory;
-use rq_page::addr::Addr;
 use std::alloc::Global;
 use std::marker::Model;
 
@@ -28,21 +27,6 @@ impl Model for Op {
 }
 
 impl Op {
-    /// To have a slot hold these bytes.
-    ///
-    /// # Errors
-    /// `NoMemory`.
-    pub fn write(alloc: Global, at: Addr, after: &Slot) -> Result<Op, NoMemory>
-        requires page { at / 16 < 2 ^ 32 }
-        requires slot { 0 < at % 16 }
-        ensures op { IfOk result (λ op. op ≡ page_job at after.now) }
-        ensures told { IfOk result (λ op. overwrite_by op.level op.bytes ≡ Some (record { at = at; after = after.now })) }
-    {
-        let mut front = [0; 8];
-        BigEndian::write_u64(&mut front, at.number());
-        Op::of(alloc, 0, false, &front, after)
-    }
-
     /// To put a message at the end of a sender's group.
     ///
     /// # Errors

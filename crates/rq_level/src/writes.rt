@@ -32,6 +32,12 @@ pub enum Outcome {
     Undone,
 }
 
+/// What a send, a receive or the inverse of one is counted as where it starts: three slots and an end.
+pub const CHAIN_RECORDS: u64 = 4;
+
+/// What a close, a mark, or the inverse of one, is counted as where it starts: one slot and an end.
+pub const ONE_SLOT_RECORDS: u64 = 2;
+
 /// What is counted of a deed: its kind, its group or client, and its tag.
 #[derive(Clone, Copy)]
 pub enum Gist {
@@ -50,8 +56,8 @@ pub enum Gist {
 pub enum Replies {
     /// Nothing: the operation has no end.
     Nothing,
-    /// What its deed tells: that a message was sent, which one was received, that a group was closed or a tag marked. With what is
-    /// counted of it.
+    /// What its deed tells: that a message was sent, which one was received, that a group was closed or a tag marked. It has what is
+    /// counted of that.
     Deed(Gist),
     /// That an earlier operation was undone.
     Undone,

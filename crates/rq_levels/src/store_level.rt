@@ -3,7 +3,7 @@ ghost use Rattle.std.specs.Prelude.{◌≡◌, IfOk, length};
 ghost use Rattle.rq_level.specs.Meaning.{level_count};
 
 use rq_chain::{ChainLevel, TagLevel};
-use rq_level::{Level, Op, PageSet, Plan, SlotWrite, Slots, Want};
+use rq_level::{Level, Op, Outcome, PageSet, Plan, SlotWrite, Slots, Want};
 use rq_model::record::{Record, Slot};
 use rq_model::refusal::Refusal;
 use rq_model::txn::Lsn;
@@ -44,6 +44,14 @@ impl Level for StoreLevel {
             StoreLevel::Slots(level) => level.reads(deed),
             StoreLevel::Chains(level) => level.reads(deed),
             StoreLevel::Tags(level) => level.reads(deed),
+        }
+    }
+
+    fn outcome(&self, deed: &[u8]) -> Option<Outcome> {
+        match self {
+            StoreLevel::Slots(level) => level.outcome(deed),
+            StoreLevel::Chains(level) => level.outcome(deed),
+            StoreLevel::Tags(level) => level.outcome(deed),
         }
     }
 

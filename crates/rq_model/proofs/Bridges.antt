@@ -7,14 +7,16 @@ use Rattle.rq_model.specs.History.{Entry}
 use Rattle.rq_model.specs.History.Entry.{Grew, Restarted}
 use Rattle.rq_model.specs.Ledger.{Done, Ledger, Phase, ledger, after, group_in, kept_in}
 use Rattle.rq_model.specs.Ledger.Phase.{Running, Stopped, Shut}
-use Rattle.rq_model.specs.Legal.{IsLegal, IsUpTo, MayFollow}
-use Rattle.rq_model.specs.Tests.{Size}
+use Rattle.rq_model.specs.Legal.{IsLegal, IsUpTo, MayGrow}
+use Rattle.rq_model.specs.Tests.{Size, size_at}
+use Rattle.rq_model.specs.Content.{content}
 use Rattle.rq_model.specs.Commits.{committed_of}
 use Rattle.rq_model.specs.Rules.{KeepsRules}
 use Rattle.rq_model.specs.Incarnations.{Ties, Extends, incarnation_of, InOrder, opened_ledger}
-use Rattle.rq_model.specs.Promises.{EndsBy, EndsInCrash, EndsInRestart, crash_to}
+use Rattle.rq_model.specs.Promises.{EndsBy, EndsInCrash, EndsInRestart, crash_to, log_grown}
 use Rattle.rq_model.specs.Bases.{based}
-use Rattle.rq_model.specs.Growth.{IsGrownBy, MayStand, growth}
+use Rattle.rq_model.specs.Growth.{Growth, IsGrownBy, IsOfMigration, MayStand, growth, records_grown}
+use Rattle.rq_model.specs.Growth.Growth.{Grows}
 use Rattle.rq_model.proofs.Follows.{none_told, shut_told}
 use Rattle.rq_model.proofs.Same.{Tied-ledger}
 use Rattle.rq_model.proofs.Shown.{group_are}
@@ -69,17 +71,38 @@ checkpoint_crash_goes_on z h log a told t rules may =
       content = λ s. content_is s log rules ∙ ap (λ x. group_in x s) (sym c) ∙ sym (group_are z (crash_to now h ∷ h) s legal);
     }
 
-pub growth_goes_on : (z : Size) (h : List Entry) (pages : ℕ) (log : List Record) → IsLegal z h → MayFollow z h (Grew pages (length log)) → Ties (after (Grew pages (length log)) (ledger h)) log → KeepsRules log
-    → EndsBy (Some pages) z h log
-growth_goes_on z h pages log a may t rules =
-    let e : Entry = Grew pages (length log) in
-    let c = t.committed in
-    let legal : IsLegal z (e ∷ h) = (may, a) in
+-- the log that stands with tag pages tells what the log tells
+many_grown : (g : Growth) (l : Ledger) (log : List Record) → l.records ≡ length log → length (log_grown g log) ≡ records_grown g l
+many_grown (Grows pages) l log is = sym is
+many_grown _ l log is = omega (arith, is)
+
+committed_grown : (g : Growth) (log : List Record) → committed_of log ≡ committed_of (log_grown g log)
+committed_grown (Grows pages) log = refl
+committed_grown _ log = refl
+
+incarnation_grown : (g : Growth) (log : List Record) → incarnation_of log ≡ incarnation_of (log_grown g log)
+incarnation_grown (Grows pages) log = refl
+incarnation_grown _ log = refl
+
+content_grown : (g : Growth) (log : List Record) (s : ℕ) → content (log_grown g log) s ≡ content log s
+content_grown (Grows pages) log s = refl
+content_grown _ log s = refl
+
+pub growth_goes_on : (z : Size) (h : List Entry) (pages : ℕ) (log : List Record) → IsLegal z h → MayGrow (size_at z h) (ledger h) pages → IsOfMigration (growth h) (ledger h) pages → Ties (ledger h) log → KeepsRules log
+    → EndsBy (Some pages) z h (log_grown (growth h) log)
+growth_goes_on z h pages log a may of t rules =
+    let g = growth h in
+    let now : List Record = log_grown g log in
+    let e : Entry = Grew pages (length now) in
+    let c : (ledger h).committed ≡ committed_of now = t.committed ∙ committed_grown g log in
+    let legal : IsLegal z (e ∷ h) = ((may, of, many_grown g (ledger h) log t.records), a) in
+    let i = t.incarnation in
+    let j = incarnation_grown g log in
     record {
       legal = legal;
-      ties = t;
+      ties = record { committed = c; records = refl; incarnation = omega (arith, i, j) };
       commits = ap (map (λ (x : Done). x.txn)) (sym c) ∙ (Tied-ledger z (e ∷ h) legal).names;
-      content = λ s. content_is s log rules ∙ ap (λ x. group_in x s) (sym c) ∙ sym (group_are z (e ∷ h) s legal);
+      content = λ s. content_grown g log s ∙ content_is s log rules ∙ ap (λ x. group_in x s) (sym t.committed) ∙ sym (group_are z (e ∷ h) s legal);
     }
 
 shut_to : (p : Phase) (n m : ℕ) → p ≡ Shut → IsUpTo m p n

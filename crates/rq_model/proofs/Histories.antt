@@ -34,6 +34,8 @@ worked = record {
   checkpoint_opened = search rules;
   checkpoint_content = refl;
   checkpoint_stopped = search rules;
+  checkpoint_stopped_with_one_more = λ a. elim a.0.2 [ inl e ↦ omega (arith, e) | inr e ↦ (let one = e.1 in omega (arith, one)) ];
+  checkpoint_stopped_over_a_full_log = λ a. elim a.0.2 [ inl e ↦ omega (arith, e) | inr e ↦ (let room = e.0.room in cc room) ];
   checkpoint_not_quiet = search rules;
   checkpoint_for_nothing = λ a. (let e = a.0 in cc e);
   checkpoint_of_open = λ a. (let e = a.0.0.1.0 in cc e);

@@ -12,12 +12,12 @@ use Rattle.rq_model.specs.Tests.{log_full}
 -- a device refused, so a crash may leave its record, and its tag pages over it. Or one that was answered, so it leaves both.
 pub data Growth : Type 0 where
   Stays : Growth
-  May_stand : Growth
+  May_base : Growth
   May_grow : (pages : ℕ) → Growth
   Grows : (pages : ℕ) → Growth
 
 abbrev pub refused_growth : Refusal → Call → Growth → Growth
-refused_growth DiskWrite Checkpoint g = May_stand
+refused_growth DiskWrite Checkpoint g = May_base
 refused_growth DiskWrite (Migrate pages) g = May_grow pages
 refused_growth _ _ g = g
 
@@ -37,8 +37,8 @@ growth (e ∷ h) = growth_by e (growth h)
 abbrev pub IsGrownBy : Growth → Option ℕ → Type 0
 IsGrownBy Stays None = Unit {0}
 IsGrownBy Stays (Some n) = ⊥
-IsGrownBy May_stand None = Unit {0}
-IsGrownBy May_stand (Some n) = ⊥
+IsGrownBy May_base None = Unit {0}
+IsGrownBy May_base (Some n) = ⊥
 IsGrownBy (May_grow pages) None = Unit {0}
 IsGrownBy (May_grow pages) (Some n) = n ≡ pages
 IsGrownBy (Grows pages) None = ⊥
@@ -48,7 +48,7 @@ IsGrownBy (Grows pages) (Some n) = n ≡ pages
 -- was asked for, where the crash comes inside it. The log had room for its record.
 abbrev pub IsOfMigration : Growth → Ledger → ℕ → Type 0
 IsOfMigration Stays l pages = (runs l.phase ≡ true) × (log_full l 1 ≡ false)
-IsOfMigration May_stand l pages = ⊥
+IsOfMigration May_base l pages = ⊥
 IsOfMigration (May_grow asked) l pages = (pages ≡ asked) × (log_full l 1 ≡ false)
 IsOfMigration (Grows asked) l pages = pages ≡ asked
 
@@ -60,7 +60,7 @@ records_grown _ l = l.records + 1
 -- a checkpoint or a migration has failed for a device; or the store runs, and the crash may come inside one
 abbrev pub MayBeCutOff : Growth → Phase → Type 0
 MayBeCutOff Stays phase = runs phase ≡ true
-MayBeCutOff May_stand phase = Unit {0}
+MayBeCutOff May_base phase = Unit {0}
 MayBeCutOff (May_grow pages) phase = Unit {0}
 MayBeCutOff (Grows pages) phase = ⊥
 

@@ -86,7 +86,7 @@ pub record MayRestart (l : Ledger) (i records : ℕ) : Type 0 where
   pub shut : l.phase ≡ Is_shut
   pub more : l.records < records
 
--- The entry may come next, by the ledger. Of a crash this is what it keeps.
+-- The entry may come next, by the ledger alone. Of crashes `MayCome` asks more.
 abbrev pub Legal : Size → Ledger → Entry → Type 0
 Legal z l (Begun t) = Passes z l Begin × (t.incarnation ≡ l.incarnation) × (t.count ≡ l.begins + 1)
 Legal z l (Started t n job) = Passes z l (start_of t job) × At l t (λ o. (n ≡ o.number + 1) × CanStart l o job)
@@ -118,8 +118,8 @@ Legal z l (Grew pages records) = MayGrow z l pages × (l.records ≤ records)
 Legal z l (Crash kept records) = MayCrash l kept records
 Legal z l (Restarted i records) = MayRestart l i records
 
--- The entry may come next. Tag pages that a crash leaves are of a migration, whose record is the last that it leaves, and those of one
--- that was answered are left.
+-- The entry may come next. Tag pages that a crash leaves are of a migration; its record is the last that is left. Those of one that
+-- was answered are left.
 abbrev pub MayCome : Size → Growth → Ledger → Entry → Type 0
 MayCome z g l (Grew pages records) = MayGrow z l pages × IsOfMigration g l pages × (records ≡ records_grown g l)
 MayCome z g l (Crash kept records) = MayCrash l kept records × IsGrownBy g None

@@ -9,10 +9,11 @@ use Rattle.rq_model.specs.Vocabulary.{In}
 use Rattle.rq_model.specs.History.{Entry, Call, Fifo, commits, ended}
 use Rattle.rq_model.specs.History.Entry.{Started, Acknowledged, Committed, Forced, Checkpointed, Migrated, Grew, Crash, Refused, Restarted}
 use Rattle.rq_model.specs.History.Job.{Sending}
-use Rattle.rq_model.specs.Ledger.{Done, Ledger, after, ledger, kept_in, runs}
+use Rattle.rq_model.specs.Ledger.{Done, Ledger, ledger, kept_in, runs}
 use Rattle.rq_model.specs.Ledger.Phase.{Shut}
-use Rattle.rq_model.specs.Growth.{IsGrownBy, MayStand, growth}
-use Rattle.rq_model.specs.Legal.{Legal, IsLegal, MayFollow}
+use Rattle.rq_model.specs.Growth.{Growth, IsGrownBy, IsOfMigration, MayStand, growth}
+use Rattle.rq_model.specs.Growth.Growth.{Grows}
+use Rattle.rq_model.specs.Legal.{Legal, IsLegal, MayGrow}
 use Rattle.rq_model.specs.Tests.{Size, size_at}
 use Rattle.rq_model.specs.Content.{content}
 use Rattle.rq_model.specs.Commits.{committed_of}
@@ -108,11 +109,16 @@ CheckpointCrashGoesOn z = (h : List Entry) (log : List Record) → IsLegal z h �
     → KeepsRules log
     → MayStand (growth h) (ledger h) → EndsInCrash z h (based (incarnation_of log) log)
 
--- A crash that leaves tag pages, where it may, and the log that it is to leave.
+-- the log that stands with tag pages: that of a migration which was answered as it is, and else one record for all
+abbrev pub log_grown : Growth → List Record → List Record
+log_grown (Grows pages) log = log
+log_grown _ log = based (incarnation_of log) log
+
+-- A crash that leaves tag pages, where it may: its log tells the history's commits and content.
 abbrev pub GrowthGoesOn : Size → Type 0
-GrowthGoesOn z = (h : List Entry) (pages : ℕ) (log : List Record) → IsLegal z h → MayFollow z h (Grew pages (length log))
-    → Ties (after (Grew pages (length log)) (ledger h)) log
-    → KeepsRules log → EndsBy (Some pages) z h log
+GrowthGoesOn z = (h : List Entry) (pages : ℕ) (log : List Record) → IsLegal z h → MayGrow (size_at z h) (ledger h) pages
+    → IsOfMigration (growth h) (ledger h) pages → Ties (ledger h) log → KeepsRules log
+    → EndsBy (Some pages) z h (log_grown (growth h) log)
 
 -- a crash of a store that is not open, which leaves what was left before, with some of what a restart that was stopped
 -- has added

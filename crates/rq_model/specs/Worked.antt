@@ -206,6 +206,9 @@ pub record AreWorked : Type 0 where
   pub checkpoint_content : group_in (ledger (Restarted 2 7 ∷ Crash 1 6 ∷ Checkpointed 6 ∷ committed_once)).committed 0
       ≡ record { sent = 1; last_tag = 7; received = 0; closed = false; rest = hello ∷ [] }
   pub checkpoint_stopped : IsLegal small (Crash 1 6 ∷ Refused Checkpoint DiskWrite ∷ committed_once)
+  pub checkpoint_stopped_with_one_more : IsLegal small (Crash 1 7 ∷ Refused Checkpoint DiskWrite ∷ committed_once) → ⊥
+  pub checkpoint_stopped_over_a_full_log : IsLegal small (Crash 0 (2 ^ 50 + 1) ∷ Refused Checkpoint DiskWrite
+      ∷ Restarted 1 (2 ^ 50) ∷ []) → ⊥
   pub checkpoint_not_quiet : IsLegal small (Refused Checkpoint NotQuiet ∷ sent_once)
   pub checkpoint_for_nothing : IsLegal small (Refused Checkpoint NotQuiet ∷ committed_once) → ⊥
   pub checkpoint_of_open : IsLegal small (Checkpointed 5 ∷ sent_once) → ⊥

@@ -64,14 +64,14 @@ pub fn crash_goes_on()
     ensures { (size : Size) → CrashGoesOn size }
 {}
 
-/// A crash in a checkpoint or a migration, which leaves the record that stands for all others, is the next entry of a legal
-/// history too: the commits and the content that this log tells are those of the history.
+/// A crash in a checkpoint or a migration, or behind one that a device refused, may leave the record that stands for all. It is
+/// the next entry of a legal history. The commits and the content that this log tells are those of the history.
 pub fn checkpoint_crash_goes_on()
     ensures { (size : Size) → CheckpointCrashGoesOn size }
 {}
 
-/// A crash that leaves the tag pages of a migration, where it may, is the next entry of a legal history too: the commits and the
-/// content that its log tells are those of the history.
+/// A crash that leaves the tag pages of a migration, where it may, is the next entry of a legal history too. Its log is that of an
+/// answered migration, or has one record for all. The commits and the content that it tells are those of the history.
 pub fn growth_goes_on()
     ensures { (size : Size) → GrowthGoesOn size }
 {}

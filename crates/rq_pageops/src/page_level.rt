@@ -1,21 +1,18 @@
 //! The level of single slots.
-ghost use Rattle.std.specs.Prelude.{◌≡◌, ◌+◌, ◌*◌, ◌<◌, ◌^◌, ◌/◌, ◌%◌, IfSome, IfNone, IfOk, Some, None};
+ghost use Rattle.std.specs.Prelude.{◌+◌, ◌*◌, ◌<◌, ◌^◌, ◌/◌, ◌%◌, IfOk};
 ghost use Rattle.rq_level.specs.LevelState.{LevelState};
-ghost use Rattle.rq_level.specs.Ops.{overwrite_by, overwrite_in};
-ghost use Rattle.rq_level.specs.PagePlans.{IsWritePlan, PlansWrite, TakesBack, is_slot_number};
+ghost use Rattle.rq_level.specs.PagePlans.{IsWritePlan, TakesBack, is_slot_number};
 
-use byteorder::{BigEndian, ByteOrder};
-use rq_level::{Level, Op, PageSet, Plan, Replies, SlotWrite, Slots, Want, only, redo_page};
+use rq_level::{
+    Level, Op, Outcome, PageSet, Plan, Replies, SlotWrite, Slots, Want, only, redo_page,
+};
 use rq_model::record::{DeedBytes, Record, Slot};
 use rq_model::refusal::{Damage, NoMemory, Refusal};
 use rq_model::txn::Lsn;
 use rq_page::addr::Addr;
 use rq_page::page::Page;
 
-// An address, and the bytes of a slot.
-const OVERWRITE: usize = 8 + 256;
-
-/// Redo and undo of single slots.
+/// Redo and undo of single slots. It is asked to do nothing.
 #[derive(Drop)]
 pub struct PageLevel;
 
@@ -34,34 +31,26 @@ impl Level for PageLevel {
         false
     }
 
+    fn outcome(&self, _deed: &[u8]) -> Option<Outcome> {
+        None
+    }
+
     fn keeps(&self) -> bool {
         false
     }
 
-    fn want(&self, op: &Op, given: &Slots) -> Want {
-        if op.is_undo() {
-            return Want::Ready;
-        }
-        match asked(op) {
-            None => Want::Ready,
-            Some((at, _)) => match given.get(at) {
-                None => Want::Slot(at),
-                Some(_) => Want::Ready,
-            },
-        }
+    fn want(&self, _op: &Op, _given: &Slots) -> Want {
+        Want::Ready
     }
 
     fn plan(
         &mut self,
-        room: Vec<SlotWrite>,
-        op: &Op,
-        given: &Slots,
+        _room: Vec<SlotWrite>,
+        _op: &Op,
+        _given: &Slots,
         _latched: &PageSet,
     ) -> Result<Plan, Refusal> {
-        if op.is_undo() {
-            return Err(Refusal::Damaged(Damage::Page(0)));
-        }
-        plan_overwrite(room, op, given)
+        Err(Refusal::Damaged(Damage::Page(0)))
     }
 
     fn undo(
@@ -88,53 +77,6 @@ impl Level for PageLevel {
     }
 
     fn noted(&mut self, _at: Addr, _bytes: &Slot) {}
-}
-
-// The slot that this level is asked to write over, and what it shall hold; none where it is asked for nothing.
-fn asked(op: &Op) -> Option<(Addr, &[u8; 256])>
-    ensures some { IfSome result (λ w. overwrite_by op.now.level op.now.bytes ≡ Some (record { at = w.0; after = w.1.now })) }
-    ensures slot { IfSome result (λ w. (0 < w.0 % 16) × (w.0 / 16 < 2 ^ 32)) }
-    ensures none { IfNone result (overwrite_by op.now.level op.now.bytes ≡ None) }
-{
-    if op.level() != 0 {
-        return None;
-    }
-    read_overwrite(op.bytes())
-}
-
-// The slot that these bytes ask to write over, and what it shall hold; none where they ask for nothing.
-fn read_overwrite(bytes: &[u8]) -> Option<(Addr, &[u8; 256])>
-    ensures some { IfSome result (λ w. overwrite_in bytes.now ≡ Some (record { at = w.0; after = w.1.now })) }
-    ensures slot { IfSome result (λ w. (0 < w.0 % 16) × (w.0 / 16 < 2 ^ 32)) }
-    ensures none { IfNone result (overwrite_in bytes.now ≡ None) }
-{
-    if bytes.len() != OVERWRITE {
-        return None;
-    }
-    let at = Addr::from_number(BigEndian::read_u64(bytes));
-    if at.slot() == 0 {
-        return None;
-    }
-    if at.page() >= 1 << 32 {
-        return None;
-    }
-    match (&bytes[8..]).try_into() {
-        Ok(after) => Some((at, after)),
-        Err(_) => None,
-    }
-}
-
-// The plan of writing over a slot.
-fn plan_overwrite(room: Vec<SlotWrite>, op: &Op, given: &Slots) -> Result<Plan, Refusal>
-    ensures { (k : LevelState) → PlansWrite k (overwrite_by op.now.level op.now.bytes) given.now result k }
-{
-    let Some((at, after)) = asked(op) else {
-        return Err(Refusal::Damaged(Damage::Page(0)));
-    };
-    match given.get(at) {
-        None => Err(Refusal::Damaged(Damage::Page(0))),
-        Some(before) => Ok(one_write(room, at, before, after)?),
-    }
 }
 
 // The plan of taking a slot write back.

@@ -46,8 +46,8 @@ some_task e = cc
 pub task_cases : (P : Task → Type 0) (level : ℕ) (bytes : List ℕ) (task : Task) → task_by level bytes ≡ Some task → ((d : Doing) → doing_by level bytes ≡ Some d → level ≡ 1 → P (Chain d)) → ((t : Tagging) → tagging_by level bytes ≡ Some t → level ≡ 2 → P (Tag t)) → P task
 task_cases P level bytes task told chain tag = by (doing_by level bytes) (tagging_by level bytes) refl refl told where
   by : (o : Option Doing) (p : Option Tagging) → doing_by level bytes ≡ o → tagging_by level bytes ≡ p → chain_or_tag o p ≡ Some task → P task
-  by (Some d) p e f t = subst P (some_task t) (chain d e (read_of 1 level (doing_in bytes) (ap is_some e)).0)
-  by None (Some u) e f t = subst P (some_task t) (tag u f (read_of 2 level (tagging_in bytes) (ap is_some f)).0)
+  by (Some d) p e f t = subst P (some_task t) (chain d e (read_of 1 level (doing_in bytes) (ap is_some e)))
+  by None (Some u) e f t = subst P (some_task t) (tag u f (read_of 2 level (tagging_in bytes) (ap is_some f)))
   by None None e f t = absurd (let no : None ≡ Some task = t in cc)
 
 module _ (z : Sizes) (images : List (List ℕ)) (rows : List Row) (levels : List LevelState) (knows : KnowsCells z images levels) (answer : Result Plan Refusal) where

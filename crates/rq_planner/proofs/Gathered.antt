@@ -54,16 +54,16 @@ fewer_left s levels n job given now a bytes e h =
 -- ---- answers
 
 module _ (s : State) (want : Wants) (job : Job) (May : List Given → Result Plan Refusal → Type 0) where
-  -- a slot that it wants is not given to it
-  pub withheld : (given : List Given) (a : ℕ) (r : Refusal) → HasGathered s want job given → want job given ≡ Some a → IsWithheld s a r → IsAnswered s want job May (Err r)
-  withheld given a r h next stops = record { given = given; has = h; comes = subst (λ o. ComesFrom s o (May given) (Err r)) (sym next) stops }
-
   lacks : (o : Option ℕ) (P : Result Plan Refusal → Type 0) → ComesFrom s o P (Err why.NoMemory)
   lacks None P = inr refl
   lacks (Some a) P = tt
 
   pub no_memory : (given : List Given) → HasGathered s want job given → IsAnswered s want job May (Err why.NoMemory)
   no_memory given h = record { given = given; has = h; comes = lacks (want job given) (May given) }
+
+  -- it wants a slot that is not given to it
+  pub withheld : (given : List Given) (a : ℕ) (r : Refusal) → HasGathered s want job given → want job given ≡ Some a → IsWithheld s a r → IsAnswered s want job May (Err r)
+  withheld given a r h next kept = record { given = given; has = h; comes = subst (λ o. ComesFrom s o (May given) (Err r)) (sym next) kept }
 
   -- all that it wants is given to it
   pub answered : (given : List Given) (answer : Result Plan Refusal) → HasGathered s want job given → want job given ≡ None → May given answer → IsAnswered s want job May answer

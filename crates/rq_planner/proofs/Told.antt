@@ -1,6 +1,7 @@
 -- A level that is told of slots as they are.
-use Rattle.std.proofs.Common.{◌≡◌, ℕ, ◌/◌, ◌%◌, ◌<◌, ◌≤◌, cond, false, List, length, sym, ◌∙◌, ap, subst, inl, inr, arith}
-use Rattle.std.proofs.lemmas.Bool.{cases_Bool, lt-ltb}
+use Rattle.std.proofs.Common.{◌≡◌, ℕ, ◌/◌, ◌%◌, ◌<◌, ◌≤◌, cond, false, List, length, Option, None, Some, option_map, refl, sym, ◌∙◌, ap, subst, inl, inr, arith}
+use Rattle.std.proofs.lemmas.Bool.{cases_Bool, false≢true, lt-ltb}
+use Rattle.rq_model.specs.declared.record.Deed.{Deed}
 use Rattle.rq_model.specs.Deeds.{deed_by}
 use Rattle.rq_model.specs.Vocabulary.{is_some}
 use Rattle.rq_page.specs.Formatted.{IsFormatted}
@@ -10,6 +11,7 @@ use Rattle.rq_page.specs.Slots.{held_in}
 use Rattle.rq_page.specs.Slots.Slot.{Free}
 use Rattle.rq_views.specs.Stored.{IsStoreSlot, slot_at, slots_in}
 use Rattle.rq_level.specs.LevelState.{LevelState}
+use Rattle.rq_level.specs.Writes.{answer_of}
 use Rattle.rq_level.specs.Meaning.{AreTold, kept_at, level_count, meaning_of}
 use Rattle.rq_level.proofs.EachLevel.{all_lawful}
 use Rattle.rq_level.proofs.Superblock.{sizes_told}
@@ -32,6 +34,14 @@ none_reads n deed le = elim (cases_Bool (is_some (deed_by n deed))) [
   | inl some ↦ let lt = (all_lawful n).reads deed some in absurd (omega (arith, lt, le))
   | inr none ↦ sym none
 ]
+
+none_in : (o : Option Deed) → false ≡ is_some o → None ≡ option_map answer_of o
+none_in None none = refl
+none_in (Some d) none = absurd (false≢true none)
+
+-- and so none answers
+pub none_answers : (n : ℕ) (deed : List ℕ) → level_count ≤ n → None ≡ option_map answer_of (deed_by n deed)
+none_answers n deed le = none_in (deed_by n deed) (none_reads n deed le)
 
 -- ---- slots
 

@@ -101,6 +101,13 @@ abbrev pub IsAnsweredBack : State → List LevelState → Record → Result Plan
 IsAnsweredBack s levels told answer = IsAnswered s (wants_of levels (level_back told)) (job_back told)
     (MayUndo s (meaning_of (level_back told)) (kept_at levels (level_back told)) told) answer
 
+-- These writes are of a plan of what takes a record back, over the slots as they are, where nothing is under way.
+pub record IsPlannedAlone (z : Sizes) (images : List (List ℕ)) (levels : List LevelState) (told : Record) (ws : List SlotWrite)
+    : Type 0 where
+  pub plan : Plan
+  pub are : plan.writes.items ≡ ws
+  pub answered : IsAnsweredBack (known z images []) levels told (Ok plan)
+
 -- ---- plans
 
 -- the deed is what is asked for, its numbers aside, which the store tells

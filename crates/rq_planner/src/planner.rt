@@ -1,14 +1,15 @@
 //! Planners: the levels of a store, with the slots that they are given.
-ghost use Rattle.std.specs.Prelude.{◌≡◌, ◌≢◌, ◌<◌, ◌/◌, ℕ, IfErr, IfOk, IsTrue, Some, true, false, length, slice_set};
+ghost use Rattle.std.specs.Prelude.{◌≡◌, ◌≢◌, ◌<◌, ◌/◌, ℕ, IfErr, IfOk, IsTrue, Some, true, false, length, option_map, slice_set};
 ghost use Rattle.rq_model.specs.declared.record.Deed.{Deed};
 ghost use Rattle.rq_model.specs.Deeds.{deed_by};
 ghost use Rattle.rq_model.specs.Vocabulary.{is_some};
 ghost use Rattle.rq_views.specs.Stored.{IsStoreSlot, slot_at, slots_in};
 ghost use Rattle.rq_level.specs.Asked.{deed_back, job_back};
+ghost use Rattle.rq_level.specs.Writes.{answer_of};
 ghost use Rattle.rq_level.specs.Meaning.{AppliesOnce, AreTold, kept_at, meaning_of, redo_of};
 ghost use Rattle.rq_pool.specs.Pooled.{image_at};
 ghost use Rattle.rq_pool.specs.Writing.{IsRedoAt};
-ghost use Rattle.rq_planner.specs.Answered.{IsAnswered, IsAnsweredBack, IsPlannedBy, KnowsCells, MayPlan, level_back, wants_of};
+ghost use Rattle.rq_planner.specs.Answered.{IsAnswered, IsAnsweredBack, IsPlannedAlone, IsPlannedBy, KnowsCells, MayPlan, level_back, wants_of};
 ghost use Rattle.rq_planner.specs.Asked.{known_from};
 ghost use Rattle.rq_planner.specs.Backs.{IsJudgedBack, IsRefusedBack, IsTakingBack};
 ghost use Rattle.rq_planner.specs.Handed.{AreForStores};
@@ -19,7 +20,7 @@ use crate::page_undos::undo_write;
 use crate::planning::{plan, plan_inverse};
 use crate::telling::{tell, tell_store};
 use rq_disk::PageDevice;
-use rq_level::{Level, Levels, Op, Plan, SlotWrite, Slots};
+use rq_level::{Level, Levels, Op, Outcome, Plan, SlotWrite, Slots};
 use rq_model::record::{DeedBytes, Record, Slot};
 use rq_model::refusal::{Damage, Refusal};
 use rq_model::txn::Lsn;
@@ -120,7 +121,7 @@ impl<B: Level> Planner<B> {
         )
     }
 
-    /// The plan of what takes back what a record tells, as `plan` does.
+    /// Has the level that a record names plan what takes its deed back, as `plan` does.
     ///
     /// # Errors
     /// `Latched`, `NoMemory`; of a store that is not sound, or where the operation may not be undone, also `Damaged`.
@@ -164,6 +165,8 @@ impl<B: Level> Planner<B> {
     ) -> Result<Vec<SlotWrite>, Refusal>
         requires { KnowsCells pages.now.sizes pages.now.images self.old }
         ensures same { self.new ≡ self.old }
+        ensures answered { IfOk result (λ writes.
+            IsPlannedAlone pages.now.sizes pages.now.images self.old told.now writes.items) }
         ensures plan { IfOk result (λ writes. IsTakingBack pages.now.sizes
             (slots_in pages.now.sizes pages.now.images) (deed_back told.now) writes.items) }
         ensures refused { IfErr result (λ r. IsRefusedBack pages.now.sizes
@@ -200,6 +203,19 @@ impl<B: Level> Planner<B> {
         ensures level { IsTrue result → level < length self.now }
     {
         (level as usize) < self.levels.len() && self.levels.reads(level as usize, deed.as_slice())
+    }
+
+    /// What the end of an operation answers, by its level and the bytes of its deed; none where these are no deed. Takes no
+    /// memory.
+    #[tactic(auto, using(crate::proofs::Told::none_answers))]
+    pub fn outcome(&self, level: u8, deed: &DeedBytes) -> Option<Outcome>
+        ensures { result ≡ option_map answer_of (deed_by level deed.now) }
+    {
+        let level = level as usize;
+        if level >= self.levels.len() {
+            return None;
+        }
+        self.levels.outcome(level, deed.as_slice())
     }
 
     /// The write that undoes what a PageOp wrote.

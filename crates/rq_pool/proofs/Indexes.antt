@@ -1,4 +1,4 @@
--- The index of the free cells is kept.
+-- The indexes of the free cells and of the closed groups are kept.
 use Rattle.std.proofs.Common.{◌≡◌, ◌≢◌, ℕ, ◌*◌, ◌/◌, ◌%◌, ◌<◌, ◌≤◌, Bool, true, false, cond, nat_lt, List, [], ◌∷◌, ◌++◌, ◌+◌, ◌-◌, length, refl, sym, ap, ◌∙◌, arith, inl, inr}
 use Rattle.std.specs.Prelude.{None, Some}
 use Rattle.std.proofs.lemmas.Bool.{cases_eq, cases_lt}
@@ -6,26 +6,43 @@ use Rattle.rq_bitset.specs.Flags.{flag_at, IsNextFlag}
 use Rattle.rq_page.specs.Sizes.{Sizes, IsCellAddress, cell_count, cell_at, page_count, place_of}
 use Rattle.rq_page.specs.Slots.{Free, held_in}
 use Rattle.rq_page.specs.Pages.{slot_of, IsWritten}
-use Rattle.rq_page.proofs.Addresses.{cells_have_places, places_are_cells}
+use Rattle.rq_page.proofs.Addresses.{cells_have_places, places_are_cells, senders_have_slots}
 use Rattle.rq_views.specs.Stored.{slots_in, slot_at, is_used, count_used}
 use Rattle.rq_pool.specs.Pooled.{image_at}
-use Rattle.rq_pool.specs.Indexed.{free_flag, IsNoted, IsFreeIndex}
+use Rattle.rq_pool.specs.Indexed.{Indexed, IsNoted, IsIndex, closed_groups, free_cells}
 use Rattle.rq_pool.proofs.Counts.{lower_place, one_of, passed, passed_more, passed_run, used_below}
 use Rattle.rq_pool.proofs.Readings.{earlier}
 
--- the flags of the cells of the first n pages are noted, and no later one is set
-pub record AreNotedTo (z : Sizes) (images : List (List ℕ)) (flags : List ℕ) (n : ℕ) : Type 0 where
-  pub room : cell_count z ≤ 64 * length flags
-  pub noted : (k : ℕ) → k < cell_count z → cell_at z k / 16 < n → IsNoted z images flags k
-  pub later : (k : ℕ) → (k < cell_count z → n ≤ cell_at z k / 16) → flag_at flags k ≡ 0
+-- the flags of what stands on the first n pages are noted, and no later one is set
+pub record AreNotedTo (x : Indexed) (z : Sizes) (images : List (List ℕ)) (flags : List ℕ) (n : ℕ) : Type 0 where
+  pub room : x.count ≤ 64 * length flags
+  pub noted : (k : ℕ) → k < x.count → x.at k / 16 < n → IsNoted x z images flags k
+  pub later : (k : ℕ) → (k < x.count → n ≤ x.at k / 16) → flag_at flags k ≡ 0
 
--- the flags of a page's cells before a slot are noted, and all others are as before
-pub record AreNotedOf (z : Sizes) (images : List (List ℕ)) (old flags : List ℕ) (page slot : ℕ) : Type 0 where
-  pub noted : (k : ℕ) → k < cell_count z → cell_at z k / 16 ≡ page → cell_at z k % 16 < slot → IsNoted z images flags k
-  pub others : (k : ℕ) → (k < cell_count z → cell_at z k / 16 ≢ page) → flag_at flags k ≡ flag_at old k
+-- the flags of what stands on a page before a slot are noted, and all others are as before
+pub record AreNotedOf (x : Indexed) (z : Sizes) (images : List (List ℕ)) (old flags : List ℕ) (page slot : ℕ) : Type 0 where
+  pub noted : (k : ℕ) → k < x.count → x.at k / 16 ≡ page → x.at k % 16 < slot → IsNoted x z images flags k
+  pub others : (k : ℕ) → (k < x.count → x.at k / 16 ≢ page) → flag_at flags k ≡ flag_at old k
   pub same : length flags ≡ length old
 
--- a cell whose slot is as it was
+-- all that an index tells of stands in slots of the store
+pub record StandsInStore (x : Indexed) (z : Sizes) : Type 0 where
+  pub high : (k : ℕ) → k < x.count → x.at k / 16 < page_count z
+  pub slot : (k : ℕ) → k < x.count → 1 ≤ x.at k % 16
+
+pub cells_stand : (z : Sizes) → StandsInStore (free_cells z) z
+cells_stand z = record {
+  high = λ k lt. let a = (cells_have_places z k lt).0.below in omega (arith, a);
+  slot = λ k lt. (cells_have_places z k lt).0.slot;
+}
+
+pub groups_stand : (z : Sizes) → StandsInStore (closed_groups z) z
+groups_stand z = record {
+  high = λ k lt. let a = (senders_have_slots z k lt).1 in omega (arith, a);
+  slot = λ k lt. (senders_have_slots z k lt).2;
+}
+
+-- what stands in a slot that is as it was
 slot_stays : (z : Sizes) (old new : List (List ℕ)) (a : ℕ) → slot_at new a ≡ slot_at old a → slots_in z new a ≡ slots_in z old a
 slot_stays z old new a same = ap (λ (bytes : List ℕ). cond (nat_lt 0 (a % 16)) (held_in z (a / 16) bytes) Free) same
 
@@ -42,53 +59,50 @@ rest_stays old new at a image lsn written others low other =
       | inr another ↦ page_stays old new (at / 16) a others another
     ]
 
--- a slot was written, and noted
-pub index_written : (z : Sizes) (old new : List (List ℕ)) (flags now : List ℕ) (at : ℕ) (image : List ℕ) (lsn : ℕ) → IsFreeIndex z old flags
-    → IsWritten (image_at old (at / 16)) (image_at new (at / 16)) (at % 16) image lsn → ((p : ℕ) → p ≢ at / 16 → image_at new p ≡ image_at old p)
-    → ((k : ℕ) → k < cell_count z → cell_at z k ≡ at → IsNoted z new now k) → ((k : ℕ) → (k < cell_count z → cell_at z k ≢ at) → flag_at now k ≡ flag_at flags k) → length now ≡ length flags
-    → IsFreeIndex z new now
-index_written z old new flags now at image lsn index written elsewhere noted others same = record {
-  room = let r = index.room in omega (arith, r, same);
-  cells = λ k lt. elim (cases_eq (cell_at z k) at) [
-    | inl here ↦ noted k lt here
-    | inr other ↦
-        let slot : slot_at new (cell_at z k) ≡ slot_at old (cell_at z k) = rest_stays old new at (cell_at z k) image lsn written elsewhere ((cells_have_places z k lt).0.slot) other in
-        others k (λ _. other) ∙ index.cells k lt ∙ ap free_flag (sym (slot_stays z old new (cell_at z k) slot))
-  ];
-  beyond = λ k past. others k (λ lt e. absurd (omega (arith, lt, past))) ∙ index.beyond k past;
-}
+module _ (x : Indexed) (z : Sizes) (stands : StandsInStore x z) where
+  -- a slot was written, and noted
+  pub index_written : (old new : List (List ℕ)) (flags now : List ℕ) (at : ℕ) (image : List ℕ) (lsn : ℕ) → IsIndex x z old flags
+      → IsWritten (image_at old (at / 16)) (image_at new (at / 16)) (at % 16) image lsn → ((p : ℕ) → p ≢ at / 16 → image_at new p ≡ image_at old p)
+      → ((k : ℕ) → k < x.count → x.at k ≡ at → IsNoted x z new now k) → ((k : ℕ) → (k < x.count → x.at k ≢ at) → flag_at now k ≡ flag_at flags k) → length now ≡ length flags
+      → IsIndex x z new now
+  index_written old new flags now at image lsn index written elsewhere noted others same = record {
+    room = let r = index.room in omega (arith, r, same);
+    noted = λ k lt. elim (cases_eq (x.at k) at) [
+      | inl here ↦ noted k lt here
+      | inr other ↦
+          let slot : slot_at new (x.at k) ≡ slot_at old (x.at k) = rest_stays old new at (x.at k) image lsn written elsewhere (stands.slot k lt) other in
+          others k (λ _. other) ∙ index.noted k lt ∙ ap x.flag (sym (slot_stays z old new (x.at k) slot))
+    ];
+    beyond = λ k past. others k (λ lt e. absurd (omega (arith, lt, past))) ∙ index.beyond k past;
+  }
 
--- no cell stands on the first page
-pub noted_none : (z : Sizes) (images : List (List ℕ)) (flags : List ℕ) → cell_count z ≤ 64 * length flags → ((k : ℕ) → flag_at flags k ≡ 0) → AreNotedTo z images flags 1
-noted_none z images flags room none = record { room = room; noted = λ k _ low. absurd (omega (arith, low)); later = λ k _. none k }
+  -- one page more is read, and noted
+  pub noted_more : (images new : List (List ℕ)) (flags now : List ℕ) (n : ℕ) (page : List ℕ) → new ≡ images ++ page ∷ [] → length images ≡ n → AreNotedTo x z images flags n
+      → ((k : ℕ) → k < x.count → x.at k / 16 ≡ n → IsNoted x z new now k) → ((k : ℕ) → (k < x.count → x.at k / 16 ≢ n) → flag_at now k ≡ flag_at flags k) → length now ≡ length flags
+      → AreNotedTo x z new now (n + 1)
+  noted_more images new flags now n page grown count before noted others same = record {
+    room = let r = before.room in omega (arith, r, same);
+    noted = λ k lt low. elim (cases_eq (x.at k / 16) n) [
+      | inl here ↦ noted k lt here
+      | inr other ↦
+          let within : x.at k / 16 < n = omega (arith, low, other) in
+          let slot : slot_at new (x.at k) ≡ slot_at images (x.at k) = ap (slot_of (x.at k % 16)) (earlier images new n page grown count (x.at k / 16) within) in
+          others k (λ _. other) ∙ before.noted k lt within ∙ ap x.flag (sym (slot_stays z images new (x.at k) slot))
+    ];
+    later = λ k past. others k (λ lt e. let p = past lt in absurd (omega (arith, e, p))) ∙ before.later k (λ lt. let p = past lt in omega (arith, p));
+  }
 
--- one page more is read, and noted
-pub noted_more : (z : Sizes) (images new : List (List ℕ)) (flags now : List ℕ) (n : ℕ) (page : List ℕ) → new ≡ images ++ page ∷ [] → length images ≡ n → AreNotedTo z images flags n
-    → ((k : ℕ) → k < cell_count z → cell_at z k / 16 ≡ n → IsNoted z new now k) → ((k : ℕ) → (k < cell_count z → cell_at z k / 16 ≢ n) → flag_at now k ≡ flag_at flags k) → length now ≡ length flags
-    → AreNotedTo z new now (n + 1)
-noted_more z images new flags now n page grown count before noted others same = record {
-  room = let r = before.room in omega (arith, r, same);
-  noted = λ k lt low. elim (cases_eq (cell_at z k / 16) n) [
-    | inl here ↦ noted k lt here
-    | inr other ↦
-        let within : cell_at z k / 16 < n = omega (arith, low, other) in
-        let slot : slot_at new (cell_at z k) ≡ slot_at images (cell_at z k) = ap (slot_of (cell_at z k % 16)) (earlier images new n page grown count (cell_at z k / 16) within) in
-        others k (λ _. other) ∙ before.noted k lt within ∙ ap free_flag (sym (slot_stays z images new (cell_at z k) slot))
-  ];
-  later = λ k past. others k (λ lt e. let p = past lt in absurd (omega (arith, e, p))) ∙ before.later k (λ lt. let p = past lt in omega (arith, p));
-}
+  -- all pages are
+  pub index_whole : (images : List (List ℕ)) (flags : List ℕ) (n : ℕ) → n ≡ page_count z → AreNotedTo x z images flags n → IsIndex x z images flags
+  index_whole images flags n all before = record {
+    room = before.room;
+    noted = λ k lt. before.noted k lt (let h = stands.high k lt in omega (arith, h, all));
+    beyond = λ k past. before.later k (λ lt. absurd (omega (arith, lt, past)));
+  }
 
--- all pages are
-pub index_whole : (z : Sizes) (images : List (List ℕ)) (flags : List ℕ) (n : ℕ) → n ≡ page_count z → AreNotedTo z images flags n → IsFreeIndex z images flags
-index_whole z images flags n all before = record {
-  room = before.room;
-  cells = λ k lt. before.noted k lt (omega (arith, lt, all));
-  beyond = λ k past. before.later k (λ lt. absurd (omega (arith, lt, past)));
-}
+-- ---- what the index of the free cells tells
 
--- ---- what the index tells
-
-module _ (z : Sizes) (images : List (List ℕ)) (flags : List ℕ) (index : IsFreeIndex z images flags) where
+module _ (z : Sizes) (images : List (List ℕ)) (flags : List ℕ) (index : IsIndex (free_cells z) z images flags) where
   by_no_flag : (b : Bool) → ◌≡◌ {A = ℕ} (cond b 0 1) 0 → b ≡ true
   by_no_flag true e = refl
   by_no_flag false e = absurd (omega (arith, e))
@@ -97,7 +111,7 @@ module _ (z : Sizes) (images : List (List ℕ)) (flags : List ℕ) (index : IsFr
   pub used_there : (b : ℕ) → IsCellAddress z b → flag_at flags (place_of z b) ≡ 0 → is_used (slots_in z images b) ≡ true
   used_there b is clear =
       let p = places_are_cells z b is in
-      ap (λ a. is_used (slots_in z images a)) (sym p.1) ∙ by_no_flag (is_used (slots_in z images (cell_at z (place_of z b)))) (sym (index.cells (place_of z b) p.0) ∙ clear)
+      ap (λ a. is_used (slots_in z images a)) (sym p.1) ∙ by_no_flag (is_used (slots_in z images (cell_at z (place_of z b)))) (sym (index.noted (place_of z b) p.0) ∙ clear)
 
   -- cells between a place and the next one in the index are used
   pub used_between : (from place a : ℕ) → a ≡ cell_at z place → IsNextFlag flags from (Some place) → (b : ℕ) → IsCellAddress z b → from ≤ place_of z b → b < a → is_used (slots_in z images b) ≡ true
@@ -125,8 +139,8 @@ module _ (z : Sizes) (images : List (List ℕ)) (flags : List ℕ) (index : IsFr
       let f : ℕ → Bool = λ i. is_used (slots_in z images (cell_at z i)) in
       let low : next < cell_count z = place_within next is.1 in
       let run : passed f next ≡ passed f from + (next - from) =
-      passed_run f from next (next - from) (omega (arith, is.0)) (λ i after to. by_no_flag (f i) (sym (index.cells i (omega (arith, to, low))) ∙ is.2 i after to)) in
-      let here : one_of (f next) ≡ 0 = by_flag (f next) (sym (index.cells next low) ∙ is.1) in
+      passed_run f from next (next - from) (omega (arith, is.0)) (λ i after to. by_no_flag (f i) (sym (index.noted i (omega (arith, to, low))) ∙ is.2 i after to)) in
+      let here : one_of (f next) ≡ 0 = by_flag (f next) (sym (index.noted next low) ∙ is.1) in
       let more : passed f (next + 1) ≡ passed f next + one_of (f next) = passed_more f next in
       omega (arith, so_far, run, here, more)
 
@@ -136,5 +150,5 @@ module _ (z : Sizes) (images : List (List ℕ)) (flags : List ℕ) (index : IsFr
   count_rest from used so_far within none =
       let f : ℕ → Bool = λ i. is_used (slots_in z images (cell_at z i)) in
       let run : passed f (cell_count z) ≡ passed f from + (cell_count z - from) =
-      passed_run f from (cell_count z) (cell_count z - from) (omega (arith, within)) (λ i after to. by_no_flag (f i) (sym (index.cells i to) ∙ none i after)) in
+      passed_run f from (cell_count z) (cell_count z - from) (omega (arith, within)) (λ i after to. by_no_flag (f i) (sym (index.noted i to) ∙ none i after)) in
       omega (arith, so_far, run)

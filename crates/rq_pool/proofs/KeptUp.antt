@@ -1,6 +1,6 @@
 -- What keeps pages up: no call of their device, and a write of one.
-use Rattle.std.proofs.Common.{◌≡◌, ℕ, ◌≤◌, Bool, true, false, List, slice_set, sym, ap, subst, arith, ◌∙◌, inl, inr, ⊎_elim, Result, Ok, Err}
-use Rattle.std.proofs.lemmas.Bool.{cases_eq}
+use Rattle.std.proofs.Common.{◌≡◌, refl, ℕ, ◌≤◌, ◌==◌, Bool, true, false, List, slice_set, sym, ap, subst, arith, ◌∙◌, inl, inr, ⊎_elim, Result, Ok, Err}
+use Rattle.std.proofs.lemmas.Bool.{cases_Bool, cases_eq, cond-true, eq-eqb, true≢false}
 use Rattle.std.proofs.lemmas.List.{get_or-set_other}
 use Rattle.rq_disk.specs.Device.{Leaves, Elapses}
 use Rattle.rq_disk.specs.declared.device.PageDevice.{Ghosts}
@@ -11,7 +11,7 @@ use Rattle.rq_pool.specs.Pooled.{Pooled, image_at, is_changed}
 use Rattle.rq_pool.specs.Writing.{AnswersWhen, DeviceAfter, MayHaveWritten, changed_after}
 use Rattle.rq_pool.specs.declared.Written.{Written}
 use Rattle.rq_pool.specs.declared.Written.TheVariants.{Done, Nothing}
-use Rattle.rq_pool.specs.KeptUp.{IsKeptUp, MayBeKept}
+use Rattle.rq_pool.specs.KeptUp.{IsForced, IsKeptUp, IsWrittenOut, MayBeKept}
 
 module _ {P : Type 0} (g : Ghosts P) (forced : ℕ) where
   -- nothing happened to the device
@@ -20,6 +20,8 @@ module _ {P : Type 0} (g : Ghosts P) (forced : ℕ) where
     sizes = sizes;
     images = λ h. images;
     changed = λ p c. record { was = ap (λ (l : List Bool). is_changed l p) (sym changed) ∙ c; same = ap (λ (l : List (List ℕ)). image_at l p) images };
+    written = λ p was is. absurd (true≢false (sym was ∙ ap (λ (l : List Bool). is_changed l p) (sym changed) ∙ is));
+    others = λ p clean. ap (λ (d : P). g.seen d p) device;
     honest = subst (λ (d : P). g.honest d → g.honest old.device) (sym device) (λ h. h);
     crash = λ p c. subst (λ (d : P). g.may_be d p c → MayBeKept g forced old p c) (sym device) (λ may. inl may);
     time = subst (λ (d : P). Elapses (g.moment old.device) (g.moment d) (g.left_since old.device) (g.left_since d) (Leaves (MayBeKept g forced old))) (sym device)
@@ -28,11 +30,19 @@ module _ {P : Type 0} (g : Ghosts P) (forced : ℕ) where
 
   -- a page whose LSN is forced was written, or was to be
   pub kept_written : (old new : Pooled P) (n : ℕ) → MayHaveWritten g n (image_at old.images n) old.device new.device → is_changed old.changed n ≡ true → lsn_of (image_at old.images n) ≤ forced
-      → new.sizes ≡ old.sizes → new.images ≡ old.images → ((p : ℕ) → is_changed new.changed p ≡ true → is_changed old.changed p ≡ true) → IsKeptUp g forced old new
-  kept_written old new n wrote was lsn sizes images fewer = record {
+      → new.sizes ≡ old.sizes → new.images ≡ old.images → ((p : ℕ) → is_changed new.changed p ≡ true → is_changed old.changed p ≡ true)
+      → ((p : ℕ) → is_changed old.changed p ≡ true → is_changed new.changed p ≡ false → (p ≡ n) × (g.seen new.device n ≡ image_at old.images n)) → IsKeptUp g forced old new
+  kept_written old new n wrote was lsn sizes images fewer off = record {
     sizes = sizes;
     images = λ h. images;
     changed = λ p c. record { was = fewer p c; same = ap (λ (l : List (List ℕ)). image_at l p) images };
+    written = λ p changed is.
+        let o = off p changed is in
+        record {
+          lsn = subst (λ (q : ℕ). lsn_of (image_at old.images q) ≤ forced) (sym o.0) lsn;
+          reads = λ h. subst (λ (q : ℕ). g.seen new.device q ≡ image_at old.images q) (sym o.0) o.1;
+        };
+    others = λ p clean. wrote.others p (λ (here : p ≡ n). true≢false (sym was ∙ ap (is_changed old.changed) (sym here) ∙ clean));
     honest = wrote.honest;
     crash = left;
     time = record {
@@ -45,18 +55,70 @@ module _ {P : Type 0} (g : Ghosts P) (forced : ℕ) where
     left p c may = ⊎_elim (λ past. inl past) (λ (e : (p ≡ n) × (c ≡ image_at old.images n)).
         inr (record { changed = ap (is_changed old.changed) e.0 ∙ was; is = e.1 ∙ ap (image_at old.images) (sym e.0); lsn = subst (λ (b : List ℕ). lsn_of b ≤ forced) (sym e.1) lsn })) (wrote.crash p c may)
 
+-- pages that are kept up twice are kept up
+module _ {P : Type 0} (g : Ghosts P) (forced : ℕ) (old mid new : Pooled P) (a : IsKeptUp g forced old mid) (b : IsKeptUp g forced mid new) where
+  left_before : (p : ℕ) (c : List ℕ) → MayBeKept g forced mid p c → MayBeKept g forced old p c
+  left_before p c may = ⊎_elim (λ m. a.crash p c m) (λ (f : IsForced g forced mid p c).
+      let s = a.changed p f.changed in
+      inr (record { changed = s.was; is = f.is ∙ s.same; lsn = f.lsn })) may
+
+  written_of : (p : ℕ) → is_changed old.changed p ≡ true → is_changed new.changed p ≡ false → IsWrittenOut g forced old new p
+  written_of p was is = elim (cases_Bool (is_changed mid.changed p)) [
+    | inl still ↦
+        let s = a.changed p still in
+        let w = b.written p still is in
+        record { lsn = subst (λ (i : List ℕ). lsn_of i ≤ forced) s.same w.lsn; reads = λ h. w.reads h ∙ s.same }
+    | inr gone ↦
+        let w = a.written p was gone in
+        record { lsn = w.lsn; reads = λ h. b.others p gone ∙ w.reads (b.honest h) }
+  ]
+
+  others_of : (p : ℕ) → is_changed old.changed p ≡ false → g.seen new.device p ≡ g.seen old.device p
+  others_of p clean = elim (cases_Bool (is_changed mid.changed p)) [
+    | inl marked ↦ absurd (true≢false (sym (a.changed p marked).was ∙ clean))
+    | inr still ↦ b.others p still ∙ a.others p clean
+  ]
+
+  pub kept_then : IsKeptUp g forced old new
+  kept_then = record {
+    sizes = b.sizes ∙ a.sizes;
+    images = λ h. b.images h ∙ a.images (b.honest h);
+    changed = λ p c.
+        let s = b.changed p c in
+        let r = a.changed p s.was in
+        record { was = r.was; same = s.same ∙ r.same };
+    written = written_of;
+    others = others_of;
+    honest = λ h. a.honest (b.honest h);
+    crash = λ p c may. left_before p c (b.crash p c may);
+    time = record {
+      later = (let x = a.time.later in let y = b.time.later in omega (arith, x, y));
+      nothing_else = λ t c le since. ⊎_elim (λ past. a.time.nothing_else t c le past) (λ now. inr (λ p. left_before p (c p) (now p)))
+          (b.time.nothing_else t c (let x = a.time.later in omega (arith, x, le)) since);
+      keeps = λ t c le past. b.time.keeps t c (let x = a.time.later in omega (arith, x, le)) (a.time.keeps t c le past);
+    };
+  }
+
 -- a page was to be written: it was, or it has no change, or it may not be, or the device failed
 pub kept_after : {P : Type 0} (g : Ghosts P) (forced : ℕ) (old new : Pooled P) (n : ℕ) (r : Result Written Refusal) → AnswersWhen old n forced r → DeviceAfter g n (image_at old.images n) old.device new.device r
     → new.changed ≡ changed_after old.changed n r → new.images ≡ old.images → new.sizes ≡ old.sizes → IsKeptUp g forced old new
 kept_after g forced old new n (Ok Done) when after changed images sizes =
-    kept_written g forced old new n after.1 when.0.changed when.1 sizes images (λ p c. fewer p (sym (ap (λ (l : List Bool). is_changed l p) changed) ∙ c)) where
+    kept_written g forced old new n after.1 when.0.changed when.1 sizes images (λ p c. fewer p (sym (ap (λ (l : List Bool). is_changed l p) changed) ∙ c))
+    (λ p was is. off p was (sym (ap (λ (l : List Bool). is_changed l p) changed) ∙ is)) where
       fewer : (p : ℕ) → is_changed (slice_set old.changed n false) p ≡ true → is_changed old.changed p ≡ true
       fewer p c = elim (cases_eq p n) [
         | inl here ↦ ap (is_changed old.changed) here ∙ when.0.changed
         | inr other ↦ sym (get_or-set_other old.changed n p false false other) ∙ c
       ]
+
+      off : (p : ℕ) → is_changed old.changed p ≡ true → is_changed (slice_set old.changed n false) p ≡ false → (p ≡ n) × (g.seen new.device n ≡ image_at old.images n)
+      off p was is = elim (cases_eq p n) [
+        | inl here ↦ (here, after.0 n ∙ cond-true (n == n) (image_at old.images n) (g.seen old.device n) (eq-eqb n n refl))
+        | inr other ↦ absurd (true≢false (sym was ∙ sym (get_or-set_other old.changed n p false false other) ∙ is))
+      ]
 kept_after g forced old new n (Ok Nothing) when after changed images sizes = kept_still g forced old new after sizes images changed
 kept_after g forced old new n (Err why.NotForced) when after changed images sizes = kept_still g forced old new after sizes images changed
 kept_after g forced old new n (Err why.DiskWrite) when after changed images sizes =
     kept_written g forced old new n after.0 when.0.changed when.1 sizes images (λ p c. sym (ap (λ (l : List Bool). is_changed l p) changed) ∙ c)
+    (λ p was is. absurd (true≢false (sym was ∙ ap (λ (l : List Bool). is_changed l p) (sym changed) ∙ is)))
 kept_after g forced old new n (Err _) when after changed images sizes = absurd when

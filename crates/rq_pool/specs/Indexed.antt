@@ -1,20 +1,45 @@
--- The index of the cells that are free.
-use Rattle.std.specs.Prelude.{◌≡◌, ℕ, ◌*◌, ◌<◌, ◌≤◌, cond, List, length}
+-- Indexes of slots: of the cells that are free, and of the groups that are closed.
+use Rattle.std.specs.Prelude.{◌≡◌, ℕ, ◌*◌, ◌<◌, ◌≤◌, Bool, cond, List, length}
 use Rattle.rq_bitset.specs.Flags.{flag_at}
-use Rattle.rq_page.specs.Sizes.{Sizes, cell_count, cell_at}
+use Rattle.rq_page.specs.Sizes.{Sizes, cell_count, cell_at, directory_at, sender_count}
 use Rattle.rq_page.specs.Slots.{Slot}
+use Rattle.rq_page.specs.Slots.Slot.{Free, Used, Sender, Client}
+use Rattle.rq_page.specs.declared.directory.Directory.{Directory}
 use Rattle.rq_views.specs.Stored.{slots_in, is_used}
+
+-- what an index tells: of so many places, where each stands, the flag of what stands there
+pub record Indexed : Type 0 where
+  pub count : ℕ
+  pub at : ℕ → ℕ
+  pub flag : Slot → ℕ
 
 -- the flag of a cell: 1 where it is free
 abbrev pub free_flag : Slot → ℕ
 free_flag x = cond (is_used x) 0 1
 
--- the flag at a place is that of the cell with this place
-abbrev pub IsNoted : Sizes → List (List ℕ) → List ℕ → ℕ → Type 0
-IsNoted z images flags k = flag_at flags k ≡ free_flag (slots_in z images (cell_at z k))
+-- the flag of a group: 1 where it is closed
+abbrev pub closed_flag : Slot → ℕ
+closed_flag (Sender s d) = cond d.closed 1 0
+closed_flag _ = 0
 
--- the places whose flags are set are exactly those of the free cells
-pub record IsFreeIndex (z : Sizes) (images : List (List ℕ)) (flags : List ℕ) : Type 0 where
-  pub room : cell_count z ≤ 64 * length flags
-  pub cells : (k : ℕ) → k < cell_count z → IsNoted z images flags k
-  pub beyond : (k : ℕ) → cell_count z ≤ k → flag_at flags k ≡ 0
+abbrev pub free_cells : Sizes → Indexed
+free_cells z = record { count = cell_count z; at = cell_at z; flag = free_flag }
+
+abbrev pub closed_groups : Sizes → Indexed
+closed_groups z = record { count = sender_count z; at = directory_at; flag = closed_flag }
+
+-- the flag at a place is that of what stands there
+abbrev pub IsNoted : Indexed → Sizes → List (List ℕ) → List ℕ → ℕ → Type 0
+IsNoted x z images flags k = flag_at flags k ≡ x.flag (slots_in z images (x.at k))
+
+-- every flag is, and none beyond is set
+pub record IsIndex (x : Indexed) (z : Sizes) (images : List (List ℕ)) (flags : List ℕ) : Type 0 where
+  pub room : x.count ≤ 64 * length flags
+  pub noted : (k : ℕ) → k < x.count → IsNoted x z images flags k
+  pub beyond : (k : ℕ) → x.count ≤ k → flag_at flags k ≡ 0
+
+-- a sender's directory slot tells whether its group is closed
+pub record TellsClosed (z : Sizes) (images : List (List ℕ)) (sender : ℕ) (closed : Bool) : Type 0 where
+  pub directory : Directory
+  pub held : slots_in z images (directory_at sender) ≡ Sender sender directory
+  pub tells : closed ≡ directory.closed

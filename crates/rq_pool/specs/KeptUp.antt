@@ -1,6 +1,6 @@
 -- What a call may make of pages that changes none of them: some are read, and some are written out whose last record is
 -- forced.
-use Rattle.std.specs.Prelude.{◌≡◌, ◌⊎◌, ℕ, ◌≤◌, true, List}
+use Rattle.std.specs.Prelude.{◌≡◌, ◌⊎◌, ℕ, ◌≤◌, true, false, List}
 use Rattle.rq_disk.specs.Device.{Leaves, Elapses}
 use Rattle.rq_disk.specs.declared.device.PageDevice.{Ghosts}
 use Rattle.rq_page.specs.Pages.{lsn_of}
@@ -22,12 +22,20 @@ module _ {P : Type 0} (g : Ghosts P) (forced : ℕ) where
     pub was : is_changed old.changed p ≡ true
     pub same : image_at new.images p ≡ image_at old.images p
 
-  -- Pages are kept up. Where the device is honest, each has its image. None counts as changed that did not. A crash, now or at any
-  -- moment of it, leaves of each what it might have left, or an image that is forced.
+  -- the last record of a page is forced, and where the device is honest it reads as the page's image
+  pub record IsWrittenOut (old new : Pooled P) (p : ℕ) : Type 0 where
+    pub lsn : lsn_of (image_at old.images p) ≤ forced
+    pub reads : g.honest new.device → g.seen new.device p ≡ image_at old.images p
+
+  -- Pages are kept up. Where the device is honest, each has its image. None counts as changed that did not, and one that does so
+  -- no more is written out. The device reads the others as before. A crash, now or at any moment of it, leaves of each what it
+  -- might have left, or an image that is forced.
   pub record IsKeptUp (old new : Pooled P) : Type 0 where
     pub sizes : new.sizes ≡ old.sizes
     pub images : g.honest new.device → new.images ≡ old.images
     pub changed : (p : ℕ) → is_changed new.changed p ≡ true → StaysChanged old new p
+    pub written : (p : ℕ) → is_changed old.changed p ≡ true → is_changed new.changed p ≡ false → IsWrittenOut old new p
+    pub others : (p : ℕ) → is_changed old.changed p ≡ false → g.seen new.device p ≡ g.seen old.device p
     pub honest : g.honest new.device → g.honest old.device
     pub crash : (p : ℕ) (c : List ℕ) → g.may_be new.device p c → MayBeKept old p c
     pub time : Elapses (g.moment old.device) (g.moment new.device) (g.left_since old.device) (g.left_since new.device)

@@ -11,15 +11,16 @@ ghost use Rattle.rq_views.specs.Stored.{IsStoreSlot, slot_at, slots_in, is_used,
 ghost use Rattle.rq_disk.specs.Device.{FailureIsCounted, Only};
 ghost use Rattle.rq_level.specs.Meaning.{AppliesOnce, redo_of};
 ghost use Rattle.rq_pool.specs.Pooled.{IsPool, image_at, is_changed};
+ghost use Rattle.rq_pool.specs.Indexed.{TellsClosed};
 
 pub mod formatting;
 mod frames;
-mod free;
 mod growing;
+mod notes;
 mod reading;
 
 use crate::frames::{mark, redo_frame, write_slot};
-use crate::free::note_slot;
+use crate::notes::{note_cell, note_group};
 use crate::reading::{read_frames, read_superblock};
 use rq_bitset::Index;
 use rq_disk::PageDevice;
@@ -63,12 +64,14 @@ pub struct Pages<P: PageDevice> {
     frames: Vec<Frame>,
     // The places of the free cells among the cells.
     free: Index,
+    // The senders whose groups are closed.
+    closed: Index,
 }
 
 impl<P: PageDevice> Model for Pages<P> {
     ghost use Rattle.rq_pool.specs.Pooled.{Pooled, AreOver};
     ghost use Rattle.rq_pool.specs.Frames.{images_of, changed_of};
-    ghost use Rattle.rq_pool.specs.Indexed.{IsFreeIndex};
+    ghost use Rattle.rq_pool.specs.Indexed.{IsIndex, closed_groups, free_cells};
 
     ghost Value = { Pooled P };
 
@@ -80,7 +83,8 @@ impl<P: PageDevice> Model for Pages<P> {
     } };
 
     ghost invariant = { λ p. AreOver P.PageDevice p.device p.layout (images_of p.frames.items)
-        (changed_of p.frames.items) × IsFreeIndex p.layout (images_of p.frames.items) p.free };
+        (changed_of p.frames.items) × IsIndex (free_cells p.layout) p.layout (images_of p.frames.items) p.free
+        × IsIndex (closed_groups p.layout) p.layout (images_of p.frames.items) p.closed };
 }
 
 /// Pages that could not be had: why, and their device.
@@ -115,11 +119,12 @@ impl<P: PageDevice + Drop> Pages<P> {
             Err(refusal) => return Err(RefusedPages { refusal, device }),
         };
         match read_frames(alloc, &mut device, &layout, superblock) {
-            Ok((frames, free)) => Ok(Pages {
+            Ok((frames, free, closed)) => Ok(Pages {
                 device,
                 layout,
                 frames,
                 free,
+                closed,
             }),
             Err(refusal) => Err(RefusedPages { refusal, device }),
         }
@@ -134,6 +139,7 @@ impl<P: PageDevice + Drop> Pages<P> {
             layout: _,
             frames: _,
             free: _,
+            closed: _,
         } = self;
         device
     }
@@ -198,7 +204,8 @@ impl<P: PageDevice> Pages<P> {
         ensures pool { IsPool self.new.sizes self.new.images }
     {
         write_slot(&mut self.frames, at, image, lsn);
-        note_slot(&mut self.free, &self.layout, &self.frames, at);
+        note_cell(&mut self.free, &self.layout, &self.frames, at);
+        note_group(&mut self.closed, &self.layout, &self.frames, at);
     }
 
     /// Has the level of single slots apply a record to its page, where the page is older. The record writes the slot at this
@@ -224,7 +231,8 @@ impl<P: PageDevice> Pages<P> {
     {
         let made = redo_frame(&mut self.frames, levels, at.page(), lsn, record);
         if made {
-            note_slot(&mut self.free, &self.layout, &self.frames, at);
+            note_cell(&mut self.free, &self.layout, &self.frames, at);
+            note_group(&mut self.closed, &self.layout, &self.frames, at);
         }
         made
     }
@@ -313,6 +321,14 @@ impl<P: PageDevice> Pages<P> {
     {
         let at = self.layout().directory_of(sender);
         DirectorySlot::read(self.slot_bytes(at)).directory
+    }
+
+    /// Whether a sender's group is closed, as its directory slot tells it. No page is read.
+    pub fn is_closed(&self, sender: u32) -> bool
+        requires { sender < sender_count self.now.sizes }
+        ensures { TellsClosed self.now.sizes self.now.images sender result }
+    {
+        self.closed.has(sender as usize)
     }
 
     /// What a client's slot holds.

@@ -6,12 +6,12 @@ ghost use Rattle.rq_page.specs.Kinds.{kind_of};
 ghost use Rattle.rq_page.specs.Cells.{free_bytes};
 ghost use Rattle.rq_page.specs.Slots.{IsSlotOf};
 ghost use Rattle.rq_page.specs.declared.layout.PageKind.TheVariants as kind;
-ghost use Rattle.rq_pool.specs.Indexed.{IsFreeIndex};
+ghost use Rattle.rq_pool.specs.Indexed.{IsIndex, closed_groups, free_cells};
 ghost use Rattle.rq_pool.specs.Frames.{images_of, changed_of};
 ghost use Rattle.rq_pool.specs.Reading.{OnlyRead, IsSuperblock, IsSoundPage, ArePages, AreSeen, StopsFor};
 
 use crate::Frame;
-use crate::free::note_page;
+use crate::notes::note_page;
 use rq_bitset::Index;
 use rq_bytes::equal::are_equal;
 use rq_disk::{PAGE, PageDevice};
@@ -37,21 +37,22 @@ pub(crate) fn read_superblock<P: PageDevice>(device: &mut P) -> Result<(Page, La
     }
 }
 
-/// Reads the pages behind the first, and checks each as it is read. Beside them, which cells are free.
-#[tactic(auto, using(crate::proofs::Readings::stops_later, crate::proofs::Indexes::noted_none, crate::proofs::Indexes::index_whole))]
+/// Reads the pages behind the first, and checks each as it is read. Beside them, which cells are free and which groups are
+/// closed.
 pub(crate) fn read_frames<P: PageDevice>(
     alloc: Global,
     device: &mut P,
     layout: &Layout,
     superblock: Page,
-) -> Result<(Vec<Frame>, Index), Refusal>
+) -> Result<(Vec<Frame>, Index, Index), Refusal>
     requires superblock { IsSuperblock layout.now superblock }
     requires first { P.honest device.old → superblock ≡ P.seen device.old 0 }
     ensures ok { IfOk result (λ read. ArePages layout.now (images_of read.0.items)) }
     ensures seen { IfOk result (λ read. P.honest device.new
         → AreSeen (P.seen device.old) (images_of read.0.items) (page_count layout.now)) }
     ensures changed { IfOk result (λ read. changed_of read.0.items ≡ replicate (page_count layout.now) false) }
-    ensures free { IfOk result (λ read. IsFreeIndex layout.now (images_of read.0.items) read.1) }
+    ensures free { IfOk result (λ read. IsIndex (free_cells layout.now) layout.now (images_of read.0.items) read.1) }
+    ensures closed { IfOk result (λ read. IsIndex (closed_groups layout.now) layout.now (images_of read.0.items) read.2) }
     ensures cause { OnOk result (P.faults device.new ≡ P.faults device.old) }
     ensures err { IfErr result (λ e. StopsFor P.PageDevice e device.old device.new) }
     ensures device { OnlyRead P.PageDevice device.old device.new }
@@ -63,14 +64,17 @@ pub(crate) fn read_frames<P: PageDevice>(
     let Ok(mut free) = Index::new(alloc, layout.cell_slots()) else {
         return Err(Refusal::NoMemory);
     };
+    let Ok(mut closed) = Index::new(alloc, layout.senders()) else {
+        return Err(Refusal::NoMemory);
+    };
     let mut page = superblock;
     add_frame(&mut frames, &page)?;
     for number in 1..count {
         read_sound_page(device, layout, number, &mut page)?;
         add_frame(&mut frames, &page)?;
-        note_page(&mut free, layout, &frames, number);
+        note_page(&mut free, &mut closed, layout, &frames, number);
     }
-    Ok((frames, free))
+    Ok((frames, free, closed))
 }
 
 // Reads a page behind the first over another, and checks it.

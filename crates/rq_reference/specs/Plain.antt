@@ -35,7 +35,7 @@ phase_of Running_state = Running
 phase_of (Stopped_state pages) = Stopped
 phase_of Shut_state = Shut
 
--- what a crash leaves of the migration
+-- what no crash has told yet: a reference meets no device
 abbrev pub growth_of : State → Growth
 growth_of (Stopped_state pages) = Grows pages
 growth_of _ = Stays

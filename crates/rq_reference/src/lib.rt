@@ -8,7 +8,7 @@ ghost use Rattle.rq_model.specs.History.Entry.{Begun, Shown, Committed, Acknowle
 ghost use Rattle.rq_model.specs.Vocabulary.{first, is_some, last_or};
 ghost use Rattle.rq_model.specs.Ledger.{empty, kept_in, marks_in, runs, sent_in};
 ghost use Rattle.rq_model.specs.Ledger.Phase.{Shut};
-ghost use Rattle.rq_model.specs.Growth.{IsGrownBy};
+ghost use Rattle.rq_model.specs.Growth.{IsGrownBy, MayStand};
 ghost use Rattle.rq_model.specs.Growth.Growth.{Stays};
 ghost use Rattle.rq_model.specs.Legal.{At, IsCheckpointed, IsUpTo};
 ghost use Rattle.rq_reference.specs.Plain.{May, MayBeRefused, next, ComesTo, FindsReady, IsBusy, IsIdle, StandsAt, finish_entry, job_of, open_of, step_entry, tags_in};
@@ -164,6 +164,19 @@ impl Reference {
         self.may_stand() && records - 1 == self.records
     }
 
+    // Whether one record may stand for all, where a crash comes inside a checkpoint or a migration.
+    fn may_stand(&self) -> bool
+        ensures { (result ≡ true) ↔ MayStand self.now.growth self.now.ledger }
+    {
+        if !self.state.is_running() {
+            return false;
+        }
+        if !self.is_quiet() {
+            return false;
+        }
+        !self.is_log_full(1)
+    }
+
     // Whether it answers calls.
     fn is_running(&self) -> bool
         ensures { result ≡ runs self.now.ledger.phase }
@@ -202,7 +215,8 @@ impl Reference {
         self.durable = self.committed.len();
     }
 
-    /// A crash that leaves the first `records` records of the log, or one more, that of a checkpoint which it cut off.
+    /// A crash that leaves the first `records` records of the log, or one more, that of a checkpoint or a migration
+    /// which it cut off.
     pub fn crash(&mut self, records: u64)
         requires forced { self.old.ledger.forced ≤ records }
         requires told { IsGrownBy self.old.growth None }

@@ -2,20 +2,21 @@
 ghost use Rattle.std.specs.Prelude.{◌≡◌, ◌≢◌, ◌↔◌, ◌*◌, IfErr, IfNone, IfOk, IfSome, OnErr, [], false, true};
 ghost use Rattle.rq_model.specs.History.Call.{Migrate};
 ghost use Rattle.rq_model.specs.History.Entry.{Grew, Migrated};
-ghost use Rattle.rq_model.specs.Growth.{IsOfMigration, MayStand, records_grown};
+ghost use Rattle.rq_model.specs.Growth.{IsOfMigration, records_grown};
+ghost use Rattle.rq_model.specs.Ledger.Phase.{Shut};
 ghost use Rattle.rq_model.specs.Tests.{bad_tags};
 ghost use Rattle.rq_reference.specs.Plain.{May, MayBeRefused, next};
 ghost use Rattle.rq_model.specs.declared.refusal.Refusal.TheVariants.{NoMemory};
 
+use crate::Reference;
 use crate::rows::State;
-use crate::{Reference, scans};
 use rq_model::refusal::Refusal;
 use rq_model::txn::Lsn;
 
-// How many clients a page of tags is for.
+// How many clients a tag page is for.
 const CLIENTS: u32 = 15;
 
-// How many pages of tags a store may have.
+// How many tag pages a store may have.
 const TAGS_LIMIT: u32 = 1024;
 
 impl Reference {
@@ -40,7 +41,7 @@ impl Reference {
         if !self.is_quiet() {
             return Err(Refusal::NotQuiet);
         }
-        if scans::log_full(&self.open_txns, self.records, 1) {
+        if self.is_log_full(1) {
             return Err(Refusal::LogFull);
         }
         self.records += 1;
@@ -50,14 +51,11 @@ impl Reference {
         Ok(self.records)
     }
 
-    /// Whether a crash may leave so many pages of tags: those of the migration that was answered, or of one that the crash cuts off.
+    /// Whether a crash may leave so many tag pages: those of the migration that was answered, or of one that the crash cuts off.
     pub fn may_grow(&self, pages: u32) -> bool
         ensures { (result ≡ true) ↔ May self.now (Grew pages (records_grown self.now.growth self.now.ledger)) }
     {
         if !self.is_of_migration(pages) {
-            return false;
-        }
-        if self.is_shut() {
             return false;
         }
         if self.clients_with(pages).is_none() {
@@ -66,7 +64,7 @@ impl Reference {
         self.is_quiet()
     }
 
-    /// A crash that leaves so many pages of tags, and the record of their migration: the store has clients then.
+    /// A crash that leaves so many tag pages, and the record of their migration: the store has clients then.
     pub fn grow(&mut self, pages: u32)
         requires { May self.old (Grew pages (records_grown self.old.growth self.old.ledger)) }
         ensures { self.new ≡ next (Grew pages (records_grown self.old.growth self.old.ledger)) self.old }
@@ -80,20 +78,7 @@ impl Reference {
         }
     }
 
-    /// Whether one record may stand for all, where a crash comes inside a checkpoint or a migration.
-    pub(super) fn may_stand(&self) -> bool
-        ensures { (result ≡ true) ↔ MayStand self.now.growth self.now.ledger }
-    {
-        if !self.state.is_running() {
-            return false;
-        }
-        if self.is_log_full(1) {
-            return false;
-        }
-        self.is_quiet()
-    }
-
-    // How many records stand where so many pages of tags do.
+    // How many records stand where so many tag pages do.
     fn records_grown(&self, pages: u32) -> u64
         requires { IsOfMigration self.now.growth self.now.ledger pages }
         ensures { result ≡ records_grown self.now.growth self.now.ledger }
@@ -105,9 +90,10 @@ impl Reference {
         }
     }
 
-    // Whether so many pages of tags are of a migration.
+    // Whether so many tag pages are of a migration.
     fn is_of_migration(&self, pages: u32) -> bool
-        ensures { (result ≡ true) ↔ IsOfMigration self.now.growth self.now.ledger pages }
+        ensures told { (result ≡ true) ↔ IsOfMigration self.now.growth self.now.ledger pages }
+        ensures open { (result ≡ true) → self.now.ledger.phase ≡ Shut → ⊥ }
     {
         match self.state {
             State::Running => !self.is_log_full(1),
@@ -116,7 +102,7 @@ impl Reference {
         }
     }
 
-    // How many clients the store has with so many pages of tags; none where it cannot get them.
+    // How many clients the store has with so many tag pages; none where it cannot get them.
     fn clients_with(&self, pages: u32) -> Option<u32>
         ensures some { IfSome result (λ clients. (clients ≡ 15 * pages) × (bad_tags self.now.size pages ≡ false)) }
         ensures none { IfNone result (bad_tags self.now.size pages ≡ true) }

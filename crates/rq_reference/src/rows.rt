@@ -14,7 +14,7 @@ use std::marker::Model;
 pub enum State {
     /// It is, and answers calls.
     Running,
-    /// A migration to so many pages of tags was answered, and it answers nothing more.
+    /// A migration to so many tag pages was answered, and it answers nothing more.
     Stopped(u32),
     /// It is not.
     Shut,

@@ -21,9 +21,9 @@ use Rattle.rq_model.specs.declared.record.Record.TheVariants as records
 use Rattle.rq_model.specs.Bases.{base_lsn, is_base, marked, marks, standing}
 use Rattle.rq_model.proofs.Bases.{standing_plain}
 use Rattle.rq_model.specs.Incarnations.{IsNext}
-use Rattle.rq_analysis.specs.Rules.{FollowAll, IsNextIn}
+use Rattle.rq_analysis.specs.Rules.{IsNextIn}
 use Rattle.rq_analysis.proofs.Marked.{marked_incarnation, marked_length}
-use Rattle.rq_analysis.proofs.Whole.{follow_marks, whole_logs}
+use Rattle.rq_analysis.proofs.Whole.{whole_logs}
 use Rattle.rq_restart.specs.declared.analysis.Analysis.{Analysis}
 use Rattle.rq_restart.specs.Found.{IsAnalysisOf, analysis_after}
 use Rattle.rq_restart.specs.Refused.{IsBadNext, IsStoppedBehind, IsWanting, NotRepeated}
@@ -70,9 +70,6 @@ module _ (f k : Analysis) (many i lsn : ℕ) (some : 1 ≤ i) (within : i ≤ ma
     order = ((some, within), tt);
     marked = refl;
   }
-
-  pub follow_base : FollowAll begun
-  follow_base = (record { running = tt; going = tt; begun = tt; numbered = tt; undoes = tt; takes_back = tt; reads = tt; begins = refl }, follow_marks many)
 
 -- a Base makes nothing of the pages
 pub base_is : (r : Record) → is_base r ≡ true → (many : ℕ) × (i : ℕ) × (r ≡ records.Base many i)

@@ -305,13 +305,13 @@ write_there log w p i j e =
 pub write_found : (log : List Record) (w : UndoableWrite) → In w (open_work_of log).undoable → ((p : Place) → In p (places_of log).writes → p.lsn ≢ w.lsn) → ⊥
 write_found log w i none = let k = write_kept log w i in none (record { lsn = w.lsn; by = w.by; place = k.1.place }) k.1.among refl
 
--- so does that of what is to be taken back
-pub due_there : (log : List Record) (d : PendingUndo) (p : Place) → In d (dues log) → In p (places_of log).ends → p.lsn ≡ d.lsn → IsAt log p.place (end_due d)
+-- so does that of what is to be taken back, and it is of its operation
+pub due_there : (log : List Record) (d : PendingUndo) (p : Place) → In d (dues log) → In p (places_of log).ends → p.lsn ≡ d.lsn → (p.by ≡ operation d.txn d.number) × IsAt log p.place (end_due d)
 due_there log d p i j e =
     let k = due_kept log d i in
     let q : Place = record { lsn = d.lsn; by = operation d.txn d.number; place = k.place } in
     let same : p ≡ q = one_kept end_at (λ r x. ends_txn r x.by.txn) (λ log. (places_of log).ends) refl (λ r log. refl) one_end own_end log p q j k.among e in
-    subst (λ n. IsAt log n (end_due d)) (sym (ap (λ (x : Place). x.place) same)) k.there
+    (ap (λ (x : Place). x.by) same, subst (λ n. IsAt log n (end_due d)) (sym (ap (λ (x : Place). x.place) same)) k.there)
 
 pub due_found : (log : List Record) (d : PendingUndo) → In d (dues log) → ((p : Place) → In p (places_of log).ends → p.lsn ≢ d.lsn) → ⊥
 due_found log d i none = let k = due_kept log d i in none (record { lsn = d.lsn; by = operation d.txn d.number; place = k.place }) k.among refl

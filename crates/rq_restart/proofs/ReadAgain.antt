@@ -19,7 +19,9 @@ use Rattle.rq_log.specs.Places.{IsAt, IsPlace, NotReadAgainFor, StandsAt}
 use Rattle.rq_log.specs.Places as log_places
 use Rattle.rq_log.specs.Spelled.{AreSpelled, spelled, spelled_all}
 use Rattle.rq_log.proofs.Keeping.{few_bytes}
-use Rattle.rq_views.proofs.Overlay.{same_is}
+use Rattle.rq_views.specs.Items.{operation}
+use Rattle.rq_views.specs.Log.{same_op}
+use Rattle.rq_views.proofs.Overlay.{same_is, same_self}
 use Rattle.rq_analysis.specs.declared.dues.PendingUndo.{PendingUndo}
 use Rattle.rq_analysis.specs.declared.open_work.UndoableWrite.{UndoableWrite}
 use Rattle.rq_analysis.specs.declared.open_work.NextUndo.TheVariants.{Write}
@@ -212,28 +214,37 @@ not_put_back kept r _ h = absurd h
 
 -- ---- what is to be taken back
 
-pub due_named : (t : Txn) (lsn : ℕ) (r : Record) → IfErr (due_told t lsn r) (λ e. e ≡ why.Damaged (damage.Record lsn))
-due_named t lsn (records.OpEnd u n level deed) = tt
-due_named t lsn _ = refl
+pub due_named : (p : Place) (r : Record) → IfErr (due_told p r) (λ e. e ≡ why.Damaged (damage.Record p.lsn))
+due_named p (records.OpEnd t n level deed) = elim (cases_Bool (same_op (operation t n) p.by)) [
+  | inl y ↦ rw y tt
+  | inr n ↦ rw n refl
+]
+due_named p _ = refl
+
+pub due_like : (p : Place) (r : Record) → IfOk (due_told p r) (λ d. (d.txn ≡ p.by.txn) × (d.lsn ≡ p.lsn))
+due_like p (records.OpEnd t n level deed) = elim (cases_Bool (same_op (operation t n) p.by)) [
+  | inl y ↦ rw y (refl, refl)
+  | inr n ↦ rw n tt
+]
+due_like p _ = tt
 
 module _ (f : Analysis) (log : List Record) (are : IsAnalysisOf f log) (t : Txn) (lsn : ℕ) (d : PendingUndo) (i : In d f.dues) (of : d.txn ≡ t) (at : d.lsn ≡ lsn) where
   pub due_is_kept : ((q : Place) → In q f.places.ends → q.lsn ≢ lsn) → ⊥
   due_is_kept none = due_found log d (subst (In d) are.dues i) (λ q j same. none q (subst (λ (s : OpenPlaces). In q s.ends) (sym are.places) j) (same ∙ at))
 
   module _ (kept : Place) (among : In kept f.places.ends) (same : kept.lsn ≡ lsn) where
-    pub end_at : IsAt log kept.place (end_due d)
-    end_at = due_there log d kept (subst (In d) are.dues i) (subst (λ (s : OpenPlaces). In kept s.ends) are.places among) (same ∙ sym at)
+    pub end_there : (kept.by ≡ operation d.txn d.number) × IsAt log kept.place (end_due d)
+    end_there = due_there log d kept (subst (In d) are.dues i) (subst (λ (s : OpenPlaces). In kept s.ends) are.places among) (same ∙ sym at)
 
-  pub due_is : due_told t lsn (end_due d) ≡ Ok d
-  due_is =
-      ap (λ (x : PendingUndo). Ok x) (ap (λ (x : Txn). record { txn = x; lsn = lsn; number = d.number; level = d.level; deed = d.deed }) (sym of) ∙ ap (λ (x : ℕ). record { txn = d.txn; lsn = x; number = d.number; level = d.level; deed = d.deed }) (sym at))
+    pub due_is : due_told kept (end_due d) ≡ Ok d
+    due_is = rw (end_there.0, same ∙ sym at, same_self (operation d.txn d.number)) refl
 
   pub due_has : (ps : List Place) → ps ≡ f.places.ends → HasRecord log ps lsn
   due_has ps e =
       subst (λ l. HasRecord log l lsn) (sym e) (record {
         rise = subst (λ (s : OpenPlaces). AreRising s.ends) (sym are.places) (ends_rise log);
         kept = due_is_kept;
-        stands = λ p i same. (end_due d, end_at p i same);
+        stands = λ p i same. (end_due d, (end_there p i same).1);
       })
 
 -- ---- a PageUndo that is read

@@ -29,7 +29,6 @@ use Rattle.rq_analysis.specs.Pages.IsNextUndo.{Voids, Undoes}
 use Rattle.rq_analysis.proofs.Lists.{in_undoable, in_with, in_without, sub_in}
 use Rattle.rq_analysis.proofs.Stacks.{in_newest}
 use Rattle.rq_analysis.proofs.Undos.{undo_leaves_less, undoing_more}
-use Rattle.rq_analysis.specs.Rules.{CanBeRead}
 use Rattle.rq_restart.specs.Again.{IsLike, IsLikeUndo, NotUndoneFor}
 use Rattle.rq_restart.specs.Found.{MayComeNext}
 use Rattle.rq_restart.specs.Repeating.{ArePagesCounted, Belongs, IsRecordRedone, Marks, Paged, Repeats}
@@ -68,12 +67,7 @@ undoable_range (CompEnd t n undone ∷ log) a p h = undoable_range log a.1 p (in
 undoable_range (Base many i ∷ log) a p h = absurd h
 undoable_range (_ ∷ log) a p h = undoable_range log a.1 p h
 
--- none of these records tells a deed
-pub undo_reads : (h : OpenWorkView) (r : Record) → IsNextUndo h r → CanBeRead r
-undo_reads h r (Voids o spent least e) = subst CanBeRead (sym e) tt
-undo_reads h r (Undoes p ps none first e) = subst CanBeRead (sym e) tt
-
--- and none is a Base
+-- none of these records is a Base
 pub undo_is_no_base : (h : OpenWorkView) (r : Record) → IsNextUndo h r → is_base r ≡ false
 undo_is_no_base h r (Voids o spent least e) = ap is_base e
 undo_is_no_base h r (Undoes p ps none first e) = ap is_base e
@@ -82,14 +76,6 @@ undo_is_no_base h r (Undoes p ps none first e) = ap is_base e
 pub like_range : (q r : Record) → IsLike q r → IsInRange q → IsInRange r
 like_range (PageUndo t n undone page slot after) r k h = subst IsInRange (sym k.4) (h.0, h.1, h.2, k.3)
 like_range _ r k h = subst IsInRange (sym k) h
-
-like_reads : (q r : Record) → IsLike q r → CanBeRead q → CanBeRead r
-like_reads (PageUndo t n undone page slot after) r k h = subst CanBeRead (sym k.4) tt
-like_reads _ r k h = subst CanBeRead (sym k) h
-
-like_plain : (q r : Record) → IsLike q r → is_base q ≡ false → is_base r ≡ false
-like_plain (PageUndo t n undone page slot after) r k h = ap is_base k.4
-like_plain _ r k h = ap is_base k ∙ h
 
 like_work : (q r : Record) (log : List Record) → IsLike q r → open_work_of (r ∷ log) ≡ open_work_of (q ∷ log)
 like_work (PageUndo t n undone page slot after) r log k = ap (λ x. open_work_of (x ∷ log)) k.4
@@ -106,12 +92,6 @@ undo_range log h r e a next = by (subst (λ k. IsNextUndo k r) e next) where
 module _ (log : List Record) (h : OpenWorkView) (r : Record) (is : h ≡ open_work_of log) (like : IsLikeUndo h r) where
   pub like_undo_range : AreSpelled log → IsInRange r
   like_undo_range are = like_range like.0 r like.2 (undo_range log h like.0 is are like.1)
-
-  pub like_undo_reads : CanBeRead r
-  like_undo_reads = like_reads like.0 r like.2 (undo_reads h like.0 like.1)
-
-  pub like_undo_plain : is_base r ≡ false
-  like_undo_plain = like_plain like.0 r like.2 (undo_is_no_base h like.0 like.1)
 
   pub like_undo_less : (after : OpenWorkView) (grown : List Record) → grown ≡ r ∷ log → after ≡ open_work_of grown → work after < work h
   like_undo_less after grown more noted =

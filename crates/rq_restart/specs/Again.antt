@@ -5,11 +5,12 @@ use Rattle.rq_model.specs.declared.record.Record.TheVariants.{PageOp, PageUndo, 
 use Rattle.rq_model.specs.declared.refusal.Refusal.{Refusal}
 use Rattle.rq_model.specs.declared.refusal.Refusal.TheVariants as why
 use Rattle.rq_model.specs.declared.refusal.Damage.TheVariants as damage
-use Rattle.rq_model.specs.declared.txn.Txn.{Txn}
 use Rattle.rq_model.specs.Vocabulary.{In}
 use Rattle.rq_disk.specs.declared.device.LogDevice.{Ghosts}
 use Rattle.rq_log.specs.Places.{IsAt}
 use Rattle.rq_record.specs.Spelling.{IsSlotNumber}
+use Rattle.rq_views.specs.Items.{operation}
+use Rattle.rq_views.specs.Log.{same_op}
 use Rattle.rq_analysis.specs.declared.dues.PendingUndo.{PendingUndo}
 use Rattle.rq_analysis.specs.OpenWorkView.{OpenWorkView}
 use Rattle.rq_analysis.specs.Pages.{IsNextUndo}
@@ -37,10 +38,12 @@ abbrev pub NotMadeFor : Result Record Refusal → Refusal → Type 0
 NotMadeFor (Ok r) e = e ≡ why.NoMemory
 NotMadeFor (Err told) e = e ≡ told
 
--- what the transaction's OpEnd with this LSN did, as this record tells it
-abbrev pub due_told : Txn → ℕ → Record → Result PendingUndo Refusal
-due_told t lsn (OpEnd u n level deed) = Ok (record { txn = t; lsn = lsn; number = n; level = level; deed = deed })
-due_told t lsn _ = Err (why.Damaged (damage.Record lsn))
+-- what the operation of this place did, as this record of its end tells it
+abbrev pub due_told : Place → Record → Result PendingUndo Refusal
+due_told p (OpEnd t n level deed) = cond (same_op (operation t n) p.by)
+    (Ok (record { txn = p.by.txn; lsn = p.lsn; number = p.by.number; level = level; deed = deed }))
+    (Err (why.Damaged (damage.Record p.lsn)))
+due_told p _ = Err (why.Damaged (damage.Record p.lsn))
 
 -- a record with this LSN has its place among these, by rising LSN, and stands where each with this LSN says
 pub record HasRecord (log : List Record) (places : List Place) (lsn : ℕ) : Type 0 where

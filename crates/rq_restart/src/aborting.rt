@@ -2,7 +2,7 @@
 ghost use Rattle.std.specs.Prelude.{◌≡◌, ◌∷◌, ◌<◌, IfOk, IfErr, MatchOption, OnOk, OnErr, None, false, List, [], length, take};
 ghost use Rattle.rq_views.specs.Stored.{slots_in};
 ghost use Rattle.rq_level.specs.Writes.{AreSlotWrites};
-ghost use Rattle.rq_planner.specs.Answered.{KnowsCells};
+ghost use Rattle.rq_planner.specs.Answered.{IsPlannedAlone, KnowsCells};
 ghost use Rattle.rq_planner.specs.Backs.{IsTakingBack};
 ghost use Rattle.rq_analysis.specs.declared.dues.PendingUndo.{PendingUndo};
 ghost use Rattle.rq_analysis.specs.Choices.{least_free};
@@ -290,6 +290,8 @@ fn plan<P: PageDevice, B: Level>(
 ) -> Result<Vec<SlotWrite>, Refusal>
     requires { KnowsCells pages.now.sizes pages.now.images planner.old }
     ensures cells { KnowsCells pages.now.sizes pages.now.images planner.new }
+    ensures answered { IfOk result (λ writes.
+        IsPlannedAlone pages.now.sizes pages.now.images planner.old (end_due due.now) writes.items) }
     ensures back { IfOk result (λ writes. IsTakingBack pages.now.sizes (slots_in pages.now.sizes pages.now.images)
         (deed_by due.now.level due.now.deed) writes.items) }
     ensures stops { IfErr result (λ e. PlanStops pages.now.sizes pages.now.images due.now e) }

@@ -146,28 +146,35 @@ pub(crate) fn due_again<L: LogDevice>(
     ensures read { IsRead L.LogDevice log.old.device log.new.device }
 {
     match kept_record(log, analysis.places.ends(), lsn) {
-        Ok(kept) => due_as(txn, lsn, &kept.1),
+        Ok(kept) => due_as(&kept.0, &kept.1),
         Err(refusal) => Err(refusal),
     }
 }
 
-fn due_as(txn: Txn, lsn: Lsn, told: &Record) -> Result<PendingUndo, Refusal>
-    ensures { result ≡ due_told txn lsn told.now }
+// What the operation of this place did, as this record tells it: the record has to be of its end.
+fn due_as(kept: &Place, told: &Record) -> Result<PendingUndo, Refusal>
+    ensures { result ≡ due_told kept.now told.now }
 {
     match told {
         Record::OpEnd {
+            txn,
             operation,
             level,
             deed,
-            ..
-        } => Ok(PendingUndo {
-            txn,
-            lsn,
-            number: *operation,
-            level: *level,
-            deed: *deed,
-        }),
-        _ => Err(Refusal::Damaged(Damage::Record(lsn))),
+        } => {
+            if sub(txn, *operation) == kept.by {
+                Ok(PendingUndo {
+                    txn: kept.by.txn,
+                    lsn: kept.lsn,
+                    number: kept.by.number,
+                    level: *level,
+                    deed: *deed,
+                })
+            } else {
+                Err(Refusal::Damaged(Damage::Record(kept.lsn)))
+            }
+        }
+        _ => Err(Refusal::Damaged(Damage::Record(kept.lsn))),
     }
 }
 

@@ -36,7 +36,7 @@ pub record IsStepOf {P L : Type 0} (p : page_device.Ghosts P) (l : log_device.Gh
   pub event : s.event ≡ e
   pub entry : s.reply ≢ Refused NoMemory → OneMore old.audit new.audit (noted number e s.reply)
   pub applied : s.reply ≢ Refused NoMemory → Applied p l old.engine e s.reply new.engine
-  pub no_entry : s.reply ≡ Refused NoMemory → LeavesNone p old new
+  pub no_entry : s.reply ≡ Refused NoMemory → LeavesNone p e old new
   pub base : (new.base ≡ old.base) × (new.taken ≡ old.taken)
 
 -- A force was called, and what was answered was published: the seat has seen at least as much.

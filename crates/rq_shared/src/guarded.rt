@@ -106,7 +106,7 @@ impl<P: PageDevice + Drop, L: LogDevice + Drop, B: Level, G: Sharing> Guarded<P,
             → OneMore self.old.audit self.new.audit (noted pass.old.number event result.reply) }
         ensures applied { result.reply ≢ Reply.Refused Refusal.NoMemory
             → Applied P.PageDevice L.LogDevice self.old.engine event result.reply self.new.engine }
-        ensures no_entry { result.reply ≡ Reply.Refused Refusal.NoMemory → LeavesNone P.PageDevice self.old self.new }
+        ensures no_entry { result.reply ≡ Reply.Refused Refusal.NoMemory → LeavesNone P.PageDevice event self.old self.new }
         ensures forced { (lsn : ℕ) → result.reply ≡ Reply.Forced lsn → self.new.engine.state.forced ≡ lsn }
     {
         let stamped = self.kept.step(pass.number, event);

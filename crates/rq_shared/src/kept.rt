@@ -150,7 +150,8 @@ impl<P: PageDevice + Drop, L: LogDevice + Drop, B: Level> Kept<P, L, B> {
     }
 
     /// Makes the call that the event stands for, and answers a stamp of it. It leaves one entry, which says
-    /// what the stamp says. Where it is answered `NoMemory` it leaves none, and changes nothing but which pages stand in memory.
+    /// what the stamp says. Where it is answered `NoMemory` it leaves none. A start or a content has perhaps read pages then, and
+    /// written others out. Any other call has changed nothing.
     pub fn step(&mut self, pass: u64, event: Event) -> Stamped
         ensures pass { result.pass ≡ pass }
         ensures event { result.event ≡ event }
@@ -158,7 +159,7 @@ impl<P: PageDevice + Drop, L: LogDevice + Drop, B: Level> Kept<P, L, B> {
             → OneMore self.old.audit self.new.audit (noted pass event result.reply) }
         ensures applied { result.reply ≢ Reply.Refused Refusal.NoMemory
             → Applied P.PageDevice L.LogDevice self.old.engine event result.reply self.new.engine }
-        ensures no_entry { result.reply ≡ Reply.Refused Refusal.NoMemory → LeavesNone P.PageDevice self.old self.new }
+        ensures no_entry { result.reply ≡ Reply.Refused Refusal.NoMemory → LeavesNone P.PageDevice event self.old self.new }
         ensures forced { (lsn : ℕ) → result.reply ≡ Reply.Forced lsn → self.new.engine.state.forced ≡ lsn }
         ensures base { (self.new.base ≡ self.old.base) × (self.new.taken ≡ self.old.taken) }
         ensures honest { AreHonest P.PageDevice L.LogDevice self.new.engine

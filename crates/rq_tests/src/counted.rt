@@ -1,13 +1,13 @@
-//! A level that counts how often it is dropped.
+//! Levels that count what they are asked.
 ghost use Rattle.std.specs.Prelude.{◌≡◌, IfOk, None};
 ghost use Rattle.rq_level.specs.LevelState.{HasRoom};
 ghost use Rattle.rq_levels.specs.Words.{kept_of, number_of};
 
 use rq_chain::{ChainLevel, TagLevel};
-use rq_level::{Level, Op, PageSet, Plan, SlotWrite, Slots, Want};
+use rq_level::{Level, Op, Outcome, PageSet, Plan, SlotWrite, Slots, Want, redo_page};
 use rq_levels::StoreLevel;
 use rq_model::record::{Record, Slot};
-use rq_model::refusal::Refusal;
+use rq_model::refusal::{Damage, Refusal};
 use rq_model::txn::Lsn;
 use rq_page::addr::Addr;
 use rq_page::page::Page;
@@ -16,53 +16,100 @@ use std::alloc::{AllocError, Global};
 use std::sync::Arc;
 use std::sync::atomic::{AtomicU64, Ordering};
 
-/// A level of a store, and how often it was dropped.
+/// How often levels were asked to plan, to take back, to redo and to note something, and what an end answers; and how often they
+/// were dropped.
+#[derive(Drop)]
+pub struct Asks {
+    plans: AtomicU64,
+    undos: AtomicU64,
+    redos: AtomicU64,
+    notes: AtomicU64,
+    outcomes: AtomicU64,
+    drops: AtomicU64,
+}
+
+/// How often that was.
+#[derive(Clone, Copy, PartialEq, Eq)]
+pub struct Counts {
+    pub plans: u64,
+    pub undos: u64,
+    pub redos: u64,
+    pub notes: u64,
+    pub outcomes: u64,
+    pub drops: u64,
+}
+
+impl Asks {
+    pub fn new() -> Asks {
+        Asks {
+            plans: AtomicU64::new(0),
+            undos: AtomicU64::new(0),
+            redos: AtomicU64::new(0),
+            notes: AtomicU64::new(0),
+            outcomes: AtomicU64::new(0),
+            drops: AtomicU64::new(0),
+        }
+    }
+
+    pub fn counts(&self) -> Counts {
+        Counts {
+            plans: self.plans.load(Ordering::SeqCst),
+            undos: self.undos.load(Ordering::SeqCst),
+            redos: self.redos.load(Ordering::SeqCst),
+            notes: self.notes.load(Ordering::SeqCst),
+            outcomes: self.outcomes.load(Ordering::SeqCst),
+            drops: self.drops.load(Ordering::SeqCst),
+        }
+    }
+}
+
+/// A level of a store, and what it was asked.
 pub struct Counted {
     pub level: StoreLevel,
-    pub drops: Arc<AtomicU64, Global>,
+    pub asks: Arc<Asks, Global>,
 }
 
 impl Counted {
-    /// The level of single slots, which counts its drops here.
-    pub fn slots(drops: &Arc<AtomicU64, Global>) -> Result<Counted, AllocError>
+    /// The level of single slots.
+    pub fn slots(asks: &Arc<Asks, Global>) -> Result<Counted, AllocError>
         ensures number { IfOk result (λ c. number_of c.level ≡ 0) }
         ensures sizes { IfOk result (λ c. (kept_of c.level).sizes ≡ None) }
     {
-        match Arc::try_clone(drops) {
-            Ok(drops) => Ok(Counted {
+        match Arc::try_clone(asks) {
+            Ok(asks) => Ok(Counted {
                 level: StoreLevel::Slots(PageLevel),
-                drops,
+                asks,
             }),
             Err(_) => Err(AllocError),
         }
     }
 
-    /// The level of tags, which counts its drops here.
-    pub fn tags(drops: &Arc<AtomicU64, Global>) -> Result<Counted, AllocError>
+    /// The level of tags.
+    pub fn tags(asks: &Arc<Asks, Global>) -> Result<Counted, AllocError>
         ensures number { IfOk result (λ c. number_of c.level ≡ 2) }
         ensures sizes { IfOk result (λ c. (kept_of c.level).sizes ≡ None) }
     {
-        match Arc::try_clone(drops) {
-            Ok(drops) => Ok(Counted {
+        match Arc::try_clone(asks) {
+            Ok(asks) => Ok(Counted {
                 level: StoreLevel::Tags(TagLevel::new()),
-                drops,
+                asks,
             }),
             Err(_) => Err(AllocError),
         }
     }
 
-    /// The level of chains, which counts its drops here.
-    pub fn chains(alloc: Global, drops: &Arc<AtomicU64, Global>) -> Result<Counted, AllocError>
+    /// The level of chains.
+    pub fn chains(alloc: Global, asks: &Arc<Asks, Global>) -> Result<Counted, AllocError>
         ensures number { IfOk result (λ c. number_of c.level ≡ 1) }
         ensures room { IfOk result (λ c. HasRoom (kept_of c.level)) }
     {
         let Ok(level) = ChainLevel::new(alloc) else {
             return Err(AllocError);
         };
-        match Arc::try_clone(drops) {
-            Ok(drops) => Ok(Counted {
+        match Arc::try_clone(asks) {
+            Ok(asks) => Ok(Counted {
                 level: StoreLevel::Chains(level),
-                drops,
+                asks,
             }),
             Err(_) => Err(AllocError),
         }
@@ -71,8 +118,8 @@ impl Counted {
 
 impl Drop for Counted {
     fn drop(self) {
-        let Self { level: _, drops } = self;
-        drops.fetch_add(1, Ordering::SeqCst);
+        let Self { level: _, asks } = self;
+        asks.drops.fetch_add(1, Ordering::SeqCst);
     }
 }
 
@@ -91,6 +138,11 @@ impl Level for Counted {
         self.level.reads(deed)
     }
 
+    fn outcome(&self, deed: &[u8]) -> Option<Outcome> {
+        self.asks.outcomes.fetch_add(1, Ordering::SeqCst);
+        self.level.outcome(deed)
+    }
+
     fn keeps(&self) -> bool {
         self.level.keeps()
     }
@@ -106,6 +158,7 @@ impl Level for Counted {
         given: &Slots,
         latched: &PageSet,
     ) -> Result<Plan, Refusal> {
+        self.asks.plans.fetch_add(1, Ordering::SeqCst);
         self.level.plan(room, op, given, latched)
     }
 
@@ -116,14 +169,99 @@ impl Level for Counted {
         given: &Slots,
         latched: &PageSet,
     ) -> Result<Plan, Refusal> {
+        self.asks.undos.fetch_add(1, Ordering::SeqCst);
         self.level.undo(room, record, given, latched)
     }
 
     fn redo(&mut self, page: &mut Page, lsn: Lsn, record: &Record) -> bool {
+        self.asks.redos.fetch_add(1, Ordering::SeqCst);
         self.level.redo(page, lsn, record)
     }
 
     fn noted(&mut self, at: Addr, bytes: &Slot) {
+        self.asks.notes.fetch_add(1, Ordering::SeqCst);
         self.level.noted(at, bytes);
+    }
+}
+
+/// A level behind those of a store. The table gives it no meaning, so it refuses what it is asked. It says that it keeps what it is
+/// told, and so it is told all.
+pub struct Bystander {
+    pub asks: Arc<Asks, Global>,
+}
+
+impl Bystander {
+    pub fn new(asks: &Arc<Asks, Global>) -> Result<Bystander, AllocError> {
+        match Arc::try_clone(asks) {
+            Ok(asks) => Ok(Bystander { asks }),
+            Err(_) => Err(AllocError),
+        }
+    }
+}
+
+impl Drop for Bystander {
+    fn drop(self) {
+        let Self { asks } = self;
+        asks.drops.fetch_add(1, Ordering::SeqCst);
+    }
+}
+
+impl Level for Bystander {
+    ghost use Rattle.rq_level.specs.LevelState.{nothing_kept};
+
+    ghost level = { λ _. 3 };
+
+    ghost kept = { λ _. nothing_kept };
+
+    fn number(&self) -> u8 {
+        3
+    }
+
+    fn reads(&self, _deed: &[u8]) -> bool {
+        false
+    }
+
+    fn outcome(&self, _deed: &[u8]) -> Option<Outcome> {
+        self.asks.outcomes.fetch_add(1, Ordering::SeqCst);
+        None
+    }
+
+    fn keeps(&self) -> bool {
+        true
+    }
+
+    fn want(&self, _op: &Op, _given: &Slots) -> Want {
+        Want::Ready
+    }
+
+    fn plan(
+        &mut self,
+        _room: Vec<SlotWrite>,
+        _op: &Op,
+        _given: &Slots,
+        _latched: &PageSet,
+    ) -> Result<Plan, Refusal> {
+        self.asks.plans.fetch_add(1, Ordering::SeqCst);
+        Err(Refusal::Damaged(Damage::Page(0)))
+    }
+
+    fn undo(
+        &mut self,
+        _room: Vec<SlotWrite>,
+        _record: &Record,
+        _given: &Slots,
+        _latched: &PageSet,
+    ) -> Result<Plan, Refusal> {
+        self.asks.undos.fetch_add(1, Ordering::SeqCst);
+        Err(Refusal::Damaged(Damage::Page(0)))
+    }
+
+    fn redo(&mut self, page: &mut Page, lsn: Lsn, record: &Record) -> bool {
+        self.asks.redos.fetch_add(1, Ordering::SeqCst);
+        redo_page(page, lsn, record)
+    }
+
+    fn noted(&mut self, _at: Addr, _bytes: &Slot) {
+        self.asks.notes.fetch_add(1, Ordering::SeqCst);
     }
 }

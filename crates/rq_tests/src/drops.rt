@@ -2,7 +2,7 @@
 ghost use Rattle.std.specs.Prelude.{◌≡◌, None};
 ghost use Rattle.rq_level.specs.LevelState.{HasRoom};
 
-use crate::counted::Counted;
+use crate::counted::{Asks, Counted};
 use rq_disk::{MemLog, MemPages, Switch};
 use rq_engine::engine::Engine;
 use rq_level::Level;
@@ -13,7 +13,6 @@ use rq_restart::restart::restart;
 use std::alloc::{AllocError, Global};
 use std::process::Abort;
 use std::sync::Arc;
-use std::sync::atomic::{AtomicU64, Ordering};
 use std::test::Fail;
 
 // How often the three levels were dropped while the store was open, and once it was given back; or, where it was not opened,
@@ -26,11 +25,11 @@ enum Dropped {
 
 // Opens a store with boxed levels that count in one place, and gives it back.
 fn count_drops(alloc: Global, is_formatted: bool) -> Result<Dropped, AllocError> {
-    let drops = Arc::new(alloc, AtomicU64::new(0))?;
-    let slots: Box<dyn Level + Send> = Box::new(alloc, Counted::slots(&drops)?)?;
-    let chains: Box<dyn Level + Send> = Box::new(alloc, Counted::chains(alloc, &drops)?)?;
-    let tags: Box<dyn Level + Send> = Box::new(alloc, Counted::tags(&drops)?)?;
-    open_and_close(alloc, is_formatted, slots, chains, tags, &drops)
+    let asks = Arc::new(alloc, Asks::new())?;
+    let slots: Box<dyn Level + Send> = Box::new(alloc, Counted::slots(&asks)?)?;
+    let chains: Box<dyn Level + Send> = Box::new(alloc, Counted::chains(alloc, &asks)?)?;
+    let tags: Box<dyn Level + Send> = Box::new(alloc, Counted::tags(&asks)?)?;
+    open_and_close(alloc, is_formatted, slots, chains, tags, &asks)
 }
 
 // Opens a store with these levels, and gives it back.
@@ -40,7 +39,7 @@ fn open_and_close<B: Level>(
     slots: B,
     chains: B,
     tags: B,
-    drops: &AtomicU64,
+    asks: &Asks,
 ) -> Result<Dropped, AllocError>
     requires slots { B.level slots ≡ 0 }
     requires operations { B.level chains ≡ 1 }
@@ -54,9 +53,9 @@ fn open_and_close<B: Level>(
     levels.push(chains)?;
     levels.push(tags)?;
     match opened(alloc, pages, log, StoreLevels::new(levels)) {
-        Some(engine) => Ok(given_back(engine, drops)),
+        Some(engine) => Ok(given_back(engine, asks)),
         None => Ok(Dropped::Refused {
-            closed: drops.load(Ordering::SeqCst),
+            closed: asks.counts().drops,
         }),
     }
 }
@@ -73,12 +72,12 @@ fn opened<B: Level>(
     }
 }
 
-fn given_back<B: Level>(engine: Engine<MemPages, MemLog, B>, drops: &AtomicU64) -> Dropped {
-    let open = drops.load(Ordering::SeqCst);
+fn given_back<B: Level>(engine: Engine<MemPages, MemLog, B>, asks: &Asks) -> Dropped {
+    let open = asks.counts().drops;
     let (_, _) = engine.give_back();
     Dropped::GivenBack {
         open,
-        closed: drops.load(Ordering::SeqCst),
+        closed: asks.counts().drops,
     }
 }
 

@@ -15,6 +15,9 @@ mod fields;
 #[cfg(test)]
 mod gates;
 #[cfg(test)]
+#[tactic(auto, unfolding(rq_level::specs::Meaning::meaning_of))]
+mod levels;
+#[cfg(test)]
 mod mark;
 #[cfg(test)]
 mod records;

@@ -175,7 +175,7 @@ fn sum_of(group: &GroupContent) -> u64 {
         .saturating_add(if group.closed { 1000 } else { 0 })
 }
 
-// Whether a migration may come through so, and did.
+// Whether a crash may leave so many tag pages, and did.
 fn grow(queue: &mut Reference, pages: u32) -> u64 {
     let may = queue.may_grow(pages);
     if may {
@@ -375,7 +375,7 @@ const MIGRATED_ROWS: [Row; 33] = [
     (Call::ClientTag(3), 170),
 ];
 
-// A crash cuts a migration off, and leaves its record and the pages of tags that it wrote.
+// A crash cuts a migration off, and leaves its record and the tag pages that it wrote.
 const GROWN_ROWS: [Row; 16] = [
     (Call::Grow(1), 0),
     (Call::Restart(1, 1), 1),

@@ -2,8 +2,6 @@
 use Rattle.std.specs.Prelude.{Bool, true, false, Result, Ok, Err}
 use Rattle.rq_model.specs.declared.refusal.Refusal.TheVariants.{NoMemory, Latched}
 use Rattle.rq_model.specs.declared.txn.Sub.{Sub}
-use Rattle.rq_model.specs.History.{Call}
-use Rattle.rq_model.specs.History.Call.{Start_send, Start_receive, Start_receive_from, Start_close, Start_mark, Undo_next}
 use Rattle.rq_engine.specs.declared.event.Event.{Event}
 use Rattle.rq_engine.specs.declared.event.Event.TheVariants as event
 use Rattle.rq_engine.specs.declared.event.Progress.TheVariants as progress
@@ -36,16 +34,6 @@ ended_of heard.NoMessage = end.NoMessage
 ended_of heard.NothingLeft = end.NothingLeft
 ended_of (heard.Refused refusal) = end.Refused refusal
 ended_of _ = end.Other
-
--- the call starts an operation
-abbrev pub starts_one : Call → Bool
-starts_one (Start_send txn message) = true
-starts_one (Start_receive txn) = true
-starts_one (Start_receive_from txn sender) = true
-starts_one (Start_close txn sender) = true
-starts_one (Start_mark txn client tag) = true
-starts_one (Undo_next txn) = true
-starts_one _ = false
 
 -- the call of a part of an operation
 abbrev pub part_event : Part → Sub → Event

@@ -1,10 +1,13 @@
-use Rattle.std.proofs.Common.{rules, ◌≡◌, ℕ, Some, ◌/◌, refl, sym, ◌∙◌, ap, arith}
+use Rattle.std.proofs.Common.{rules, ◌≡◌, ℕ, Option, None, Some, IsSome, Err, ◌/◌, refl, sym, ◌∙◌, ap, arith}
+use Rattle.std.proofs.lemmas.Bool.{false≢true}
+use Rattle.rq_model.specs.declared.refusal.Damage.TheVariants as damage
+use Rattle.rq_model.specs.declared.refusal.Refusal.TheVariants as why
 use Rattle.rq_page.specs.Slots.{held_in}
 use Rattle.rq_txn.specs.Rows.{latched_in}
 use Rattle.rq_store.specs.State.{State}
-use Rattle.rq_planner.specs.Answered.{wants_of}
+use Rattle.rq_planner.specs.Answered.{IsAnswered, wants_of}
 use Rattle.rq_planner.specs.Asked.{known_from}
-use Rattle.rq_planner.proofs.Gathered.{fewer_left, one_more, wish_slot}
+use Rattle.rq_planner.proofs.Gathered.{fewer_left, no_memory, one_more, wish_slot, withheld}
 use Rattle.rq_planner.proofs.Knowing.{of_store}
 use Rattle.rq_planner.proofs.Told.{slot_is}
 use Rattle.rq_planner.proofs.gathering.gather.Goals as goal
@@ -33,3 +36,24 @@ loop-at-smaller g c =
 
 pub returns-then-has_latched-clause-refusal : goal.returns-then-has_latched-clause-refusal
 returns-then-has_latched-clause-refusal g c = search rules
+
+none_there : {X : Type 0} (o : Option X) → o ≡ None → IsSome o → ⊥
+none_there None e some = false≢true some
+none_there (Some x) e some = absurd (let no : Some x ≡ None = e in cc)
+
+pub returns-in_default-slot-clause-refusal : goal.returns-in_default-slot-clause-refusal
+returns-in_default-slot-clause-refusal g c =
+    let s : State = known_from c.args.pages.now c.args.transactions.now in
+    let at : ℕ = c.in-Slot.at in
+    let levels = c.args.levels.now in
+    let n = c.args.op.now.level in
+    let want : wants_of levels n c.args.op.now c.loop-at.slots ≡ Some at = ap (λ i. wants_of levels i c.args.op.now c.loop-at.slots) (sym c.level.ensures) ∙ wish_slot _ c.want.result at c.want.ensures c.in-Slot.is in
+    withheld s (wants_of levels n) c.args.op.now (λ given answer. ⊥) c.loop-at.slots at (why.Damaged (damage.Page 0)) c.loop-at.invariant want
+    (λ stands. none_there c.slot.result c.in_default-slot.is (c.slot.ensures.known.1 stands))
+
+pub returns-in_err-add-clause-refusal : goal.returns-in_err-add-clause-refusal
+returns-in_err-add-clause-refusal g c =
+    let s : State = known_from c.args.pages.now c.args.transactions.now in
+    let lacks : IsAnswered s (wants_of c.args.levels.now c.args.op.now.level) c.args.op.now (λ given answer. ⊥) (Err why.NoMemory) =
+    no_memory s (wants_of c.args.levels.now c.args.op.now.level) c.args.op.now (λ given answer. ⊥) c.loop-at.slots c.loop-at.invariant in
+    search (rules, lacks)

@@ -1,15 +1,20 @@
-use Rattle.std.proofs.Common.{◌∙◌, ◌++◌, ◌∷◌, [], List, Bool, false, ap, arith}
+use Rattle.std.proofs.Common.{◌≡◌, ◌∙◌, ◌++◌, ◌∷◌, [], ℕ, List, Bool, false, ap, arith, replicate, rules, subst, sym}
 use Rattle.std.proofs.lemmas.List.{replicate_more}
-use Rattle.rq_pool.specs.Frames.{images_of}
+use Rattle.rq_model.specs.declared.refusal.Refusal.TheVariants as why
 use Rattle.rq_disk.specs.Device.{Images}
-use Rattle.rq_pool.proofs.Readings.{only_read_on, seen_more, read_more, earlier}
-use Rattle.rq_pool.proofs.Indexes.{noted_more}
+use Rattle.rq_page.specs.Sizes.{page_count}
+use Rattle.rq_pool.specs.Frames.{images_of}
+use Rattle.rq_pool.specs.Indexed.{closed_groups, free_cells}
+use Rattle.rq_pool.specs.Reading.{IsSuperblock, StopsFor}
+use Rattle.rq_pool.proofs.Readings.{only_read_on, seen_more, read_more, earlier, stops_later}
+use Rattle.rq_pool.proofs.Indexes.{cells_stand, groups_stand, index_whole, noted_more}
 use Rattle.rq_pool.proofs.reading.read_frames.Goals as goal
 
 pub loop-number-preserved : goal.loop-number-preserved
 loop-number-preserved g c =
     let P = g.P.PageDevice in
     let i = c.loop-number.invariant in
+    let z = c.args.layout.now in
     let n = c.loop-number.number in
     let old = images_of c.loop-number.frames.items in
     let new = images_of c.add_frame-in-loop-number.new.frames.items in
@@ -22,7 +27,62 @@ loop-number-preserved g c =
       superblock = earlier old new n page grown i.read.count 0 (omega (arith, c.loop-number.auto.number)) ∙ i.superblock;
       seen = λ h. seen_more old new n page grown i.read.count (P.seen c.args.device.now) (i.seen (read.device.honest h)) (read.ok.0 h ∙ ap (λ (s : Images). s n) i.device.same);
       unchanged = c.in_ok-add_frame-2.ensures.changed ∙ ap (λ (l : List Bool). l ++ false ∷ []) i.unchanged ∙ replicate_more n false;
-      free = noted_more c.args.layout.now old new c.loop-number.free c.note_page.new.free n page grown i.read.count i.free (rw c.deref.ensures.value at noted.noted) noted.others noted.same;
+      free = noted_more (free_cells z) z (cells_stand z) old new c.loop-number.free c.note_page.new.free n page grown i.read.count i.free (rw c.deref.ensures.value at noted.free) noted.free_others noted.free_same;
+      closed = noted_more (closed_groups z) z (groups_stand z) old new c.loop-number.closed c.note_page.new.closed n page grown i.read.count i.closed (rw c.deref.ensures.value at noted.closed) noted.closed_others noted.closed_same;
       faults = read.cause ∙ i.faults;
       device = only_read_on P c.args.device.now c.loop-number.device c.read_sound_page.new.device i.device read.device;
     }
+
+-- a device that fails, or a page that is damaged
+pub returns-in_err-read_sound_page-clause-err : goal.returns-in_err-read_sound_page-clause-err
+returns-in_err-read_sound_page-clause-err g c =
+    let P = g.P.PageDevice in
+    let i = c.loop-number.invariant in
+    let said = stops_later P c.args.device.now c.loop-number.device c.read_sound_page.new.device _ i.device.same i.faults c.in_err-read_sound_page.ensures.err in
+    search (rules, said)
+
+pub returns-in_err-read_sound_page-clause-device : goal.returns-in_err-read_sound_page-clause-device
+returns-in_err-read_sound_page-clause-device g c =
+    only_read_on g.P.PageDevice c.args.device.now c.loop-number.device c.read_sound_page.new.device c.loop-number.invariant.device c.in_err-read_sound_page.ensures.device
+
+-- no memory for a page more
+pub returns-in_err-add_frame-2-clause-err : goal.returns-in_err-add_frame-2-clause-err
+returns-in_err-add_frame-2-clause-err g c =
+    let P = g.P.PageDevice in
+    let i = c.loop-number.invariant in
+    let read = c.in_ok-read_sound_page.ensures in
+    let said : StopsFor P why.NoMemory c.args.device.now c.read_sound_page.new.device =
+    (λ h. (c.args.layout.now, subst (IsSuperblock c.args.layout.now) (c.requires.first (i.device.honest (read.device.honest h))) c.requires.superblock), read.cause ∙ i.faults) in
+    search (rules, said)
+
+pub returns-in_err-add_frame-2-clause-device : goal.returns-in_err-add_frame-2-clause-device
+returns-in_err-add_frame-2-clause-device g c =
+    only_read_on g.P.PageDevice c.args.device.now c.loop-number.device c.read_sound_page.new.device c.loop-number.invariant.device c.in_ok-read_sound_page.ensures.device
+
+-- all pages are read
+pub returns-clause-ok : goal.returns-clause-ok
+returns-clause-ok g c =
+    let i = c.loop-number.invariant in
+    let all : c.loop-number.number ≡ page_count c.args.layout.now = (let low = c.loop-number-test.false in let high = c.loop-number.auto.number-end in let n = c.pages-count.ensures.number in omega (arith, low, high, n)) in
+    record {
+      superblock = subst (IsSuperblock c.args.layout.now) (sym i.superblock) c.requires.superblock;
+      count = i.read.count ∙ all;
+      sound = λ p low lt. i.read.sound p low (omega (arith, lt, all));
+    }
+
+pub returns-clause-changed : goal.returns-clause-changed
+returns-clause-changed g c =
+    let all : c.loop-number.number ≡ page_count c.args.layout.now = (let low = c.loop-number-test.false in let high = c.loop-number.auto.number-end in let n = c.pages-count.ensures.number in omega (arith, low, high, n)) in
+    c.loop-number.invariant.unchanged ∙ ap (λ (n : ℕ). replicate n false) all
+
+pub returns-clause-free : goal.returns-clause-free
+returns-clause-free g c =
+    let z = c.args.layout.now in
+    let all : c.loop-number.number ≡ page_count c.args.layout.now = (let low = c.loop-number-test.false in let high = c.loop-number.auto.number-end in let n = c.pages-count.ensures.number in omega (arith, low, high, n)) in
+    index_whole (free_cells z) z (cells_stand z) _ _ c.loop-number.number all c.loop-number.invariant.free
+
+pub returns-clause-closed : goal.returns-clause-closed
+returns-clause-closed g c =
+    let z = c.args.layout.now in
+    let all : c.loop-number.number ≡ page_count c.args.layout.now = (let low = c.loop-number-test.false in let high = c.loop-number.auto.number-end in let n = c.pages-count.ensures.number in omega (arith, low, high, n)) in
+    index_whole (closed_groups z) z (groups_stand z) _ _ c.loop-number.number all c.loop-number.invariant.closed

@@ -1,5 +1,6 @@
 use Rattle.std.proofs.Common.{◌≡◌, false, replicate}
 use Rattle.rq_pool.specs.Frames.{images_of, changed_of}
+use Rattle.rq_pool.specs.Indexed.{closed_groups, free_cells}
 use Rattle.rq_pool.specs.Pooled.{image_at}
 use Rattle.rq_pool.specs.Reading.{OnlyRead, AreSeen}
 use Rattle.rq_pool.proofs.Readings.{AreRead}
@@ -14,7 +15,8 @@ invariant-loop-number g l =
       superblock : image_at (images_of l.frames.items) 0 ≡ l.fn.superblock;
       seen : P.honest l.device → AreSeen (P.seen l.fn.device) (images_of l.frames.items) l.number;
       unchanged : changed_of l.frames.items ≡ replicate l.number false;
-      free : AreNotedTo l.layout (images_of l.frames.items) l.free l.number;
+      free : AreNotedTo (free_cells l.layout) l.layout (images_of l.frames.items) l.free l.number;
+      closed : AreNotedTo (closed_groups l.layout) l.layout (images_of l.frames.items) l.closed l.number;
       faults : P.faults l.device ≡ P.faults l.fn.device;
       device : OnlyRead P l.fn.device l.device;
     }

@@ -1,5 +1,5 @@
-use Rattle.std.proofs.Common.{List, [], ◌∷◌, ap, false, not, refl, subst, sym, true, ◌≡◌, ◌∙◌}
-use Rattle.std.proofs.lemmas.Bool.{false≢true}
+use Rattle.std.proofs.Common.{rules, List, [], ◌∷◌, ap, false, not, refl, subst, sym, true, ◌≡◌, ◌∙◌}
+use Rattle.std.proofs.lemmas.Bool.{false≢true, not-true}
 use Rattle.rq_model.specs.Vocabulary.{first, is_some}
 use Rattle.rq_model.specs.Ledger.{Ledger, Open, Phase, runs}
 use Rattle.rq_model.specs.Growth.{MayBeCutOff, MayStand}
@@ -29,12 +29,18 @@ returns-then-not-is_running c = (
   λ may. absurd (let there = subst (λ (s : Stand). MayStand s.growth s.ledger) (sym c.self.view_is) may in still c.self.inside.state _ refl (sym c.is_running.ensures ∙ c.if-not-is_running.true) there),
 )
 
+pub returns-then-not-is_quiet : goal.returns-then-not-is_quiet
+returns-then-not-is_quiet c = (
+  λ e. cc e,
+  λ may. (let quiet = c.is_quiet.ensures ∙ ap (λ os. not (is_some (first os))) may.none_open in search (rules, quiet)),
+)
+
 pub returns : goal.returns
 returns c = (
   λ e. record {
-    none_open = none_there c.args.self.now.ledger.open_ones (sym c.is_quiet.ensures ∙ e);
-    room = sym c.is_log_full.ensures ∙ c.if-is_log_full.false;
+    none_open = none_there c.args.self.now.ledger.open_ones (sym c.is_quiet.ensures ∙ c.if-not-is_quiet.false);
+    room = sym c.is_log_full.ensures ∙ not-true c.is_log_full.result e;
     cut_off = subst (λ (s : Stand). MayBeCutOff s.growth s.ledger.phase) c.self.view_is (cuts_off c.self.inside.state (phase_of c.self.inside.state) refl (sym c.is_running.ensures ∙ c.if-not-is_running.false));
   },
-  λ may. c.is_quiet.ensures ∙ ap (λ os. not (is_some (first os))) may.none_open,
+  λ may. ap not (c.is_log_full.ensures ∙ may.room),
 )

@@ -4,33 +4,33 @@ use Rattle.rq_engine.specs.declared.event.Event.{Event}
 use Rattle.rq_model.specs.Causes.{writes_out}
 use Rattle.rq_engine.proofs.Applying.{not_leaves}
 use Rattle.rq_engine.specs.KeptUp.{reads_pages, starts_one}
-use Rattle.rq_engine.proofs.Leaving.{plain_leaves, begun_leaves, start_leaves, take_begins, undo_begins, undo_leaves}
+use Rattle.rq_engine.proofs.Leaving.{plain_leaves, begun_leaves, start_leaves, take_begins, take_counts, undo_begins, undo_counts, undo_leaves}
 use Rattle.rq_engine.proofs.Listing.{begun_answered, take_lists, take_from_lists, log_left, undo_answered, undo_lists}
 use Rattle.rq_engine.proofs.engine.Engine.call.Goals as goal
 
 pub returns-in-Err-clause-refused : goal.returns-in-Err-clause-refused
-returns-in-Err-clause-refused g c = plain_leaves c.args.self.now c.begin.new.self c.args.event.now _ (ap (λ (e : Event). reads_pages e) c.in-Begin.is) (ap (λ (e : Event). writes_out (call_of e)) c.in-Begin.is) c.in-Err.ensures.refused
+returns-in-Err-clause-refused g c = plain_leaves c.args.self.now c.begin.new.self c.args.event.now _ (ap (λ (e : Event). reads_pages (call_of e)) c.in-Begin.is) (ap (λ (e : Event). writes_out (call_of e)) c.in-Begin.is) c.in-Err.ensures.refused
 
 pub returns-in-Err-start_send-clause-refused : goal.returns-in-Err-start_send-clause-refused
-returns-in-Err-start_send-clause-refused g c = start_leaves c.args.self.now c.start_send.new.self c.args.event.now _ (ap (λ (e : Event). reads_pages e) c.in-StartSend.is) (ap (λ (e : Event). starts_one e) c.in-StartSend.is) c.in-Err-start_send.ensures.refused
+returns-in-Err-start_send-clause-refused g c = start_leaves c.args.self.now c.start_send.new.self c.args.event.now _ (ap (λ (e : Event). reads_pages (call_of e)) c.in-StartSend.is) (ap (λ (e : Event). starts_one (call_of e)) c.in-StartSend.is) c.in-Err-start_send.ensures.refused
 
 pub returns-in-Err-step-clause-refused : goal.returns-in-Err-step-clause-refused
-returns-in-Err-step-clause-refused g c = plain_leaves c.args.self.now c.step.new.self c.args.event.now _ (ap (λ (e : Event). reads_pages e) c.in-Step.is) (ap (λ (e : Event). writes_out (call_of e)) c.in-Step.is) c.in-Err-step.ensures.refused
+returns-in-Err-step-clause-refused g c = plain_leaves c.args.self.now c.step.new.self c.args.event.now _ (ap (λ (e : Event). reads_pages (call_of e)) c.in-Step.is) (ap (λ (e : Event). writes_out (call_of e)) c.in-Step.is) c.in-Err-step.ensures.refused
 
 pub returns-in-Err-finish-clause-refused : goal.returns-in-Err-finish-clause-refused
-returns-in-Err-finish-clause-refused g c = plain_leaves c.args.self.now c.finish.new.self c.args.event.now _ (ap (λ (e : Event). reads_pages e) c.in-Finish.is) (ap (λ (e : Event). writes_out (call_of e)) c.in-Finish.is) c.in-Err-finish.ensures.refused
+returns-in-Err-finish-clause-refused g c = plain_leaves c.args.self.now c.finish.new.self c.args.event.now _ (ap (λ (e : Event). reads_pages (call_of e)) c.in-Finish.is) (ap (λ (e : Event). writes_out (call_of e)) c.in-Finish.is) c.in-Err-finish.ensures.refused
 
 pub returns-in-Err-commit-clause-refused : goal.returns-in-Err-commit-clause-refused
-returns-in-Err-commit-clause-refused g c = plain_leaves c.args.self.now c.commit.new.self c.args.event.now _ (ap (λ (e : Event). reads_pages e) c.in-Commit.is) (ap (λ (e : Event). writes_out (call_of e)) c.in-Commit.is) c.in-Err-commit.ensures.refused
+returns-in-Err-commit-clause-refused g c = plain_leaves c.args.self.now c.commit.new.self c.args.event.now _ (ap (λ (e : Event). reads_pages (call_of e)) c.in-Commit.is) (ap (λ (e : Event). writes_out (call_of e)) c.in-Commit.is) c.in-Err-commit.ensures.refused
 
 pub returns-in-Err-content-clause-refused : goal.returns-in-Err-content-clause-refused
 returns-in-Err-content-clause-refused g c = rw (c.in-Content.is) c.in-Err-content.ensures.refused
 
 pub returns-in-StartReceive-clause-refused : goal.returns-in-StartReceive-clause-refused
-returns-in-StartReceive-clause-refused g c = begun_leaves c.args.self.now c.start_receive.new.self c.args.event.now c.start_receive.result _ (ap (λ (e : Event). reads_pages e) c.in-StartReceive.is) (ap (λ (e : Event). starts_one e) c.in-StartReceive.is) c.start_receive.ensures.refused c.receive_reply.ensures
+returns-in-StartReceive-clause-refused g c = begun_leaves c.args.self.now c.start_receive.new.self c.args.event.now c.start_receive.result _ (ap (λ (e : Event). reads_pages (call_of e)) c.in-StartReceive.is) (ap (λ (e : Event). starts_one (call_of e)) c.in-StartReceive.is) c.start_receive.ensures.refused c.receive_reply.ensures
 
 pub returns-in-StartReceiveFrom-clause-refused : goal.returns-in-StartReceiveFrom-clause-refused
-returns-in-StartReceiveFrom-clause-refused g c = begun_leaves c.args.self.now c.start_receive_from.new.self c.args.event.now c.start_receive_from.result _ (ap (λ (e : Event). reads_pages e) c.in-StartReceiveFrom.is) (ap (λ (e : Event). starts_one e) c.in-StartReceiveFrom.is) c.start_receive_from.ensures.refused c.receive_reply-in-StartReceiveFrom.ensures
+returns-in-StartReceiveFrom-clause-refused g c = begun_leaves c.args.self.now c.start_receive_from.new.self c.args.event.now c.start_receive_from.result _ (ap (λ (e : Event). reads_pages (call_of e)) c.in-StartReceiveFrom.is) (ap (λ (e : Event). starts_one (call_of e)) c.in-StartReceiveFrom.is) c.start_receive_from.ensures.refused c.receive_reply-in-StartReceiveFrom.ensures
 
 pub returns-in-StartReceive-clause-lists : goal.returns-in-StartReceive-clause-lists
 returns-in-StartReceive-clause-lists g c = take_lists c.args.self.now.state _ c.start_receive.result _ c.args.event.now c.start_receive.new.self.state _ c.in-StartReceive.is c.start_receive.ensures.lists c.receive_reply.ensures
@@ -46,13 +46,13 @@ pub returns-in-StartReceive-clause-answered : goal.returns-in-StartReceive-claus
 returns-in-StartReceive-clause-answered g c = begun_answered g.P.PageDevice g.L.LogDevice c.args.self.now _ c.start_receive.result _ c.args.event.now c.start_receive.new.self (ap call_of c.in-StartReceive.is) c.start_receive.ensures.answered c.receive_reply.ensures
 
 pub returns-in-Err-start_abort-clause-refused : goal.returns-in-Err-start_abort-clause-refused
-returns-in-Err-start_abort-clause-refused g c = plain_leaves c.args.self.now c.start_abort.new.self c.args.event.now _ (ap (λ (e : Event). reads_pages e) c.in-StartAbort.is) (ap (λ (e : Event). writes_out (call_of e)) c.in-StartAbort.is) c.in-Err-start_abort.ensures.refused
+returns-in-Err-start_abort-clause-refused g c = plain_leaves c.args.self.now c.start_abort.new.self c.args.event.now _ (ap (λ (e : Event). reads_pages (call_of e)) c.in-StartAbort.is) (ap (λ (e : Event). writes_out (call_of e)) c.in-StartAbort.is) c.in-Err-start_abort.ensures.refused
 
 pub returns-in-Err-end_abort-clause-refused : goal.returns-in-Err-end_abort-clause-refused
-returns-in-Err-end_abort-clause-refused g c = plain_leaves c.args.self.now c.end_abort.new.self c.args.event.now _ (ap (λ (e : Event). reads_pages e) c.in-EndAbort.is) (ap (λ (e : Event). writes_out (call_of e)) c.in-EndAbort.is) c.in-Err-end_abort.ensures.refused
+returns-in-Err-end_abort-clause-refused g c = plain_leaves c.args.self.now c.end_abort.new.self c.args.event.now _ (ap (λ (e : Event). reads_pages (call_of e)) c.in-EndAbort.is) (ap (λ (e : Event). writes_out (call_of e)) c.in-EndAbort.is) c.in-Err-end_abort.ensures.refused
 
 pub returns-in-UndoNext-clause-refused : goal.returns-in-UndoNext-clause-refused
-returns-in-UndoNext-clause-refused g c = undo_leaves c.args.self.now c.undo_next.new.self c.args.event.now c.undo_next.result _ (ap (λ (e : Event). reads_pages e) c.in-UndoNext.is) (ap (λ (e : Event). starts_one e) c.in-UndoNext.is) c.undo_next.ensures.refused c.undoing.ensures
+returns-in-UndoNext-clause-refused g c = undo_leaves c.args.self.now c.undo_next.new.self c.args.event.now c.undo_next.result _ (ap (λ (e : Event). reads_pages (call_of e)) c.in-UndoNext.is) (ap (λ (e : Event). starts_one (call_of e)) c.in-UndoNext.is) c.undo_next.ensures.refused c.undoing.ensures
 
 pub returns-in-UndoNext-clause-lists : goal.returns-in-UndoNext-clause-lists
 returns-in-UndoNext-clause-lists g c = undo_lists c.args.self.now.state _ c.undo_next.result _ c.args.event.now c.undo_next.new.self.state _ c.in-UndoNext.is c.undo_next.ensures.lists c.undoing.ensures
@@ -67,7 +67,7 @@ pub returns-in-Err-checkpoint-clause-answered : goal.returns-in-Err-checkpoint-c
 returns-in-Err-checkpoint-clause-answered g c h earlier long k = rw (c.in-Checkpoint.is) (c.in-Err-checkpoint.ensures.answered h earlier long k).0
 
 pub returns-in-Err-checkpoint-clause-refused : goal.returns-in-Err-checkpoint-clause-refused
-returns-in-Err-checkpoint-clause-refused g c = not_leaves g.P.PageDevice g.L.LogDevice c.args.self.now c.checkpoint.new.self c.args.event.now _ (ap (λ (e : Event). reads_pages e) c.in-Checkpoint.is) (ap (λ (e : Event). writes_out (call_of e)) c.in-Checkpoint.is) c.in-Err-checkpoint.ensures.refused
+returns-in-Err-checkpoint-clause-refused g c = not_leaves g.P.PageDevice g.L.LogDevice c.args.self.now c.checkpoint.new.self c.args.event.now _ (ap (λ (e : Event). reads_pages (call_of e)) c.in-Checkpoint.is) (ap (λ (e : Event). writes_out (call_of e)) c.in-Checkpoint.is) c.in-Err-checkpoint.ensures.refused
 
 pub returns-in-StartReceive-clause-any_moment : goal.returns-in-StartReceive-clause-any_moment
 returns-in-StartReceive-clause-any_moment g c =
@@ -87,10 +87,19 @@ pub returns-in-Err-migrate-clause-cause : goal.returns-in-Err-migrate-clause-cau
 returns-in-Err-migrate-clause-cause g c h earlier long k = rw (c.in-Migrate.is) (c.in-Err-migrate.ensures.answered h earlier long k).1
 
 pub returns-in-StartReceive-clause-begun : goal.returns-in-StartReceive-clause-begun
-returns-in-StartReceive-clause-begun g c = rw (c.in-StartReceive.is) (take_begins c.args.self.now c.start_receive.new.self c.start_receive.result _ c.start_receive.ensures.begun c.start_receive.ensures.none c.receive_reply.ensures)
+returns-in-StartReceive-clause-begun g c = rw (c.in-StartReceive.is) (take_begins c.args.self.now c.start_receive.new.self _ _ c.start_receive.result _ c.start_receive.ensures.begun c.start_receive.ensures.none c.receive_reply.ensures)
 
 pub returns-in-StartReceiveFrom-clause-begun : goal.returns-in-StartReceiveFrom-clause-begun
-returns-in-StartReceiveFrom-clause-begun g c = rw (c.in-StartReceiveFrom.is) (take_begins c.args.self.now c.start_receive_from.new.self c.start_receive_from.result _ c.start_receive_from.ensures.begun c.start_receive_from.ensures.none c.receive_reply-in-StartReceiveFrom.ensures)
+returns-in-StartReceiveFrom-clause-begun g c = rw (c.in-StartReceiveFrom.is) (take_begins c.args.self.now c.start_receive_from.new.self _ _ c.start_receive_from.result _ c.start_receive_from.ensures.begun c.start_receive_from.ensures.none c.receive_reply-in-StartReceiveFrom.ensures)
 
 pub returns-in-UndoNext-clause-begun : goal.returns-in-UndoNext-clause-begun
-returns-in-UndoNext-clause-begun g c = rw (c.in-UndoNext.is) (undo_begins c.args.self.now c.undo_next.new.self c.undo_next.result _ c.undo_next.ensures.begun c.undo_next.ensures.none c.undoing.ensures)
+returns-in-UndoNext-clause-begun g c = rw (c.in-UndoNext.is) (undo_begins c.args.self.now c.undo_next.new.self _ c.undo_next.result _ c.undo_next.ensures.begun c.undo_next.ensures.none c.undoing.ensures)
+
+pub returns-in-StartReceive-clause-pages : goal.returns-in-StartReceive-clause-pages
+returns-in-StartReceive-clause-pages g c = rw (c.in-StartReceive.is) (c.start_receive.ensures.devices.0, take_counts c.args.self.now c.start_receive.new.self g.P.PageDevice c.start_receive.result _ c.start_receive.ensures.faults c.receive_reply.ensures)
+
+pub returns-in-StartReceiveFrom-clause-pages : goal.returns-in-StartReceiveFrom-clause-pages
+returns-in-StartReceiveFrom-clause-pages g c = rw (c.in-StartReceiveFrom.is) (c.start_receive_from.ensures.devices.0, take_counts c.args.self.now c.start_receive_from.new.self g.P.PageDevice c.start_receive_from.result _ c.start_receive_from.ensures.faults c.receive_reply-in-StartReceiveFrom.ensures)
+
+pub returns-in-UndoNext-clause-pages : goal.returns-in-UndoNext-clause-pages
+returns-in-UndoNext-clause-pages g c = rw (c.in-UndoNext.is) (c.undo_next.ensures.devices.0, undo_counts c.args.self.now c.undo_next.new.self g.P.PageDevice c.undo_next.result _ c.undo_next.ensures.faults c.undoing.ensures)

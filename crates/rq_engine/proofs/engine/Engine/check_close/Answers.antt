@@ -24,15 +24,15 @@ returns-then-not-may_send-clause-refused g c h earlier long =
     let below : c.args.sender < sender_count s.sizes = omega (arith, n, lt) in
     busy s c.args.txn c.args.sender h below (ap (λ (x : State). is_free_for c.args.txn c.args.sender x.ends.sending) (sym (state_is c.self.view_is)) ∙ sym c.if-not-may_send.ensures)
 
-pub returns-then-group-clause-refused : goal.returns-then-group-clause-refused
-returns-then-group-clause-refused g c h earlier long =
+pub returns-then-is_closed-clause-refused : goal.returns-then-is_closed-clause-refused
+returns-then-is_closed-clause-refused g c h earlier long =
     let s = on earlier c.args.self.now.state in
     let n : c.senders.result ≡ sender_count s.sizes = c.senders.ensures.number ∙ ap sender_count (c.layout.ensures.sizes ∙ ap (λ (x : State). x.sizes) (state_is c.self.view_is)) in
     let lt = c.if-sender-senders.false in
     let below : c.args.sender < sender_count s.sizes = omega (arith, n, lt) in
     let free : is_free_for c.args.txn c.args.sender s.ends.sending ≡ true = ap (λ (x : State). is_free_for c.args.txn c.args.sender x.ends.sending) (sym (state_is c.self.view_is)) ∙ sym c.if-not-may_send.ensures in
-    let at : slots_in s.sizes s.images (directory_at c.args.sender) ≡ Sender c.args.sender c.group.result = ap (λ (x : State). slots_in x.sizes x.images (directory_at c.args.sender)) (sym (state_is c.self.view_is)) ∙ c.group.ensures.held in
-    closed s c.args.txn c.args.sender h below free c.group.result at c.if-group.true
+    let at : slots_in s.sizes s.images (directory_at c.args.sender) ≡ Sender c.args.sender c.is_closed.ensures.directory = ap (λ (x : State). slots_in x.sizes x.images (directory_at c.args.sender)) (sym (state_is c.self.view_is)) ∙ c.is_closed.ensures.held in
+    closed s c.args.txn c.args.sender h below free c.is_closed.ensures.directory at (sym c.is_closed.ensures.tells ∙ c.if-is_closed.true)
 
 pub returns-then-is_log_full-clause-refused : goal.returns-then-is_log_full-clause-refused
 returns-then-is_log_full-clause-refused g c h earlier long =
@@ -41,8 +41,8 @@ returns-then-is_log_full-clause-refused g c h earlier long =
     let lt = c.if-sender-senders.false in
     let below : c.args.sender < sender_count s.sizes = omega (arith, n, lt) in
     let free : is_free_for c.args.txn c.args.sender s.ends.sending ≡ true = ap (λ (x : State). is_free_for c.args.txn c.args.sender x.ends.sending) (sym (state_is c.self.view_is)) ∙ sym c.if-not-may_send.ensures in
-    let at : slots_in s.sizes s.images (directory_at c.args.sender) ≡ Sender c.args.sender c.group.result = ap (λ (x : State). slots_in x.sizes x.images (directory_at c.args.sender)) (sym (state_is c.self.view_is)) ∙ c.group.ensures.held in
-    log_is_full s c.args.txn c.args.sender h below free c.group.result at c.if-group.false (full_on earlier c.args.self.now.state long _ ∙ sym c.if-is_log_full.ensures)
+    let at : slots_in s.sizes s.images (directory_at c.args.sender) ≡ Sender c.args.sender c.is_closed.ensures.directory = ap (λ (x : State). slots_in x.sizes x.images (directory_at c.args.sender)) (sym (state_is c.self.view_is)) ∙ c.is_closed.ensures.held in
+    log_is_full s c.args.txn c.args.sender h below free c.is_closed.ensures.directory at (sym c.is_closed.ensures.tells ∙ c.if-is_closed.false) (full_on earlier c.args.self.now.state long _ ∙ sym c.if-is_log_full.ensures)
 
 pub returns-clause-passes : goal.returns-clause-passes
 returns-clause-passes g c earlier long k h =
@@ -51,8 +51,8 @@ returns-clause-passes g c earlier long k h =
     let lt = c.if-sender-senders.false in
     let below : c.args.sender < sender_count s.sizes = omega (arith, n, lt) in
     let free : is_free_for c.args.txn c.args.sender s.ends.sending ≡ true = ap (λ (x : State). is_free_for c.args.txn c.args.sender x.ends.sending) (sym (state_is c.self.view_is)) ∙ sym c.if-not-may_send.ensures in
-    let at : slots_in s.sizes s.images (directory_at c.args.sender) ≡ Sender c.args.sender c.group.result = ap (λ (x : State). slots_in x.sizes x.images (directory_at c.args.sender)) (sym (state_is c.self.view_is)) ∙ c.group.ensures.held in
-    passes s c.args.txn c.args.sender h below free c.group.result at c.if-group.false (full_on earlier c.args.self.now.state long _ ∙ sym c.if-is_log_full.ensures) k
+    let at : slots_in s.sizes s.images (directory_at c.args.sender) ≡ Sender c.args.sender c.is_closed.ensures.directory = ap (λ (x : State). slots_in x.sizes x.images (directory_at c.args.sender)) (sym (state_is c.self.view_is)) ∙ c.is_closed.ensures.held in
+    passes s c.args.txn c.args.sender h below free c.is_closed.ensures.directory at (sym c.is_closed.ensures.tells ∙ c.if-is_closed.false) (full_on earlier c.args.self.now.state long _ ∙ sym c.if-is_log_full.ensures) k
 
 pub returns-clause-unclosed : goal.returns-clause-unclosed
 returns-clause-unclosed g c earlier long k h =
@@ -61,5 +61,5 @@ returns-clause-unclosed g c earlier long k h =
     let lt = c.if-sender-senders.false in
     let below : c.args.sender < sender_count s.sizes = omega (arith, n, lt) in
     let free : is_free_for c.args.txn c.args.sender s.ends.sending ≡ true = ap (λ (x : State). is_free_for c.args.txn c.args.sender x.ends.sending) (sym (state_is c.self.view_is)) ∙ sym c.if-not-may_send.ensures in
-    let at : slots_in s.sizes s.images (directory_at c.args.sender) ≡ Sender c.args.sender c.group.result = ap (λ (x : State). slots_in x.sizes x.images (directory_at c.args.sender)) (sym (state_is c.self.view_is)) ∙ c.group.ensures.held in
-    is_open s c.args.txn c.args.sender h below free c.group.result at c.if-group.false k
+    let at : slots_in s.sizes s.images (directory_at c.args.sender) ≡ Sender c.args.sender c.is_closed.ensures.directory = ap (λ (x : State). slots_in x.sizes x.images (directory_at c.args.sender)) (sym (state_is c.self.view_is)) ∙ c.is_closed.ensures.held in
+    is_open s c.args.txn c.args.sender h below free c.is_closed.ensures.directory at (sym c.is_closed.ensures.tells ∙ c.if-is_closed.false) k

@@ -18,15 +18,15 @@ returns-then-not-may_send-clause-refused g c h earlier long =
     let short : length c.args.body.now ≤ 216 = (let t = c.if-body-gt-BODY_LIMIT.false in omega (arith, t)) in
     busy (on earlier c.args.self.now.state) c.args.txn c.args.sender c.args.tag c.args.body.now h below short (ap (λ (s : State). is_free_for c.args.txn c.args.sender s.ends.sending) (sym (state_is c.self.view_is)) ∙ sym c.if-not-may_send.ensures)
 
-pub returns-then-group-clause-refused : goal.returns-then-group-clause-refused
-returns-then-group-clause-refused g c h earlier long =
+pub returns-then-is_closed-clause-refused : goal.returns-then-is_closed-clause-refused
+returns-then-is_closed-clause-refused g c h earlier long =
     let n : c.senders.result ≡ sender_count c.args.self.now.state.sizes = c.senders.ensures.number ∙ ap sender_count (c.layout.ensures.sizes ∙ ap (λ (s : State). s.sizes) (state_is c.self.view_is)) in
     let lt = c.if-sender-senders.false in
     let below : c.args.sender < sender_count c.args.self.now.state.sizes = omega (arith, n, lt) in
     let short : length c.args.body.now ≤ 216 = (let t = c.if-body-gt-BODY_LIMIT.false in omega (arith, t)) in
     let free : is_free_for c.args.txn c.args.sender c.args.self.now.state.ends.sending ≡ true = ap (λ (s : State). is_free_for c.args.txn c.args.sender s.ends.sending) (sym (state_is c.self.view_is)) ∙ sym c.if-not-may_send.ensures in
-    let at : slots_in c.args.self.now.state.sizes c.args.self.now.state.images (directory_at c.args.sender) ≡ Sender c.args.sender c.group.result = ap (λ (s : State). slots_in s.sizes s.images (directory_at c.args.sender)) (sym (state_is c.self.view_is)) ∙ c.group.ensures.held in
-    closed (on earlier c.args.self.now.state) c.args.txn c.args.sender c.args.tag c.args.body.now h below short free c.group.result at c.if-group.true
+    let at : slots_in c.args.self.now.state.sizes c.args.self.now.state.images (directory_at c.args.sender) ≡ Sender c.args.sender c.is_closed.ensures.directory = ap (λ (s : State). slots_in s.sizes s.images (directory_at c.args.sender)) (sym (state_is c.self.view_is)) ∙ c.is_closed.ensures.held in
+    closed (on earlier c.args.self.now.state) c.args.txn c.args.sender c.args.tag c.args.body.now h below short free c.is_closed.ensures.directory at (sym c.is_closed.ensures.tells ∙ c.if-is_closed.true)
 
 pub returns-then-self-from-clause-refused : goal.returns-then-self-from-clause-refused
 returns-then-self-from-clause-refused g c h earlier long =
@@ -38,8 +38,8 @@ returns-then-self-from-clause-refused g c h earlier long =
     let cells : c.cell_slots.result ≡ cell_count c.args.self.now.state.sizes = c.cell_slots.ensures.number ∙ ap cell_count (c.layout-2.ensures.sizes ∙ ap (λ (s : State). s.sizes) (state_is c.self.view_is)) in
     let used : c.self.inside.cells_in_use ≡ c.args.self.now.state.cells_in_use = ap (λ (s : State). s.cells_in_use) (state_is c.self.view_is) in
     let from : c.from.result ≡ c.cell_slots.result = c.from.ensures in
-    let at : slots_in c.args.self.now.state.sizes c.args.self.now.state.images (directory_at c.args.sender) ≡ Sender c.args.sender c.group.result = ap (λ (s : State). slots_in s.sizes s.images (directory_at c.args.sender)) (sym (state_is c.self.view_is)) ∙ c.group.ensures.held in
-    full (on earlier c.args.self.now.state) c.args.txn c.args.sender c.args.tag c.args.body.now h below short free c.group.result at c.if-group.false (let t = c.if-self-from.true in omega (arith, t, cells, used, from))
+    let at : slots_in c.args.self.now.state.sizes c.args.self.now.state.images (directory_at c.args.sender) ≡ Sender c.args.sender c.is_closed.ensures.directory = ap (λ (s : State). slots_in s.sizes s.images (directory_at c.args.sender)) (sym (state_is c.self.view_is)) ∙ c.is_closed.ensures.held in
+    full (on earlier c.args.self.now.state) c.args.txn c.args.sender c.args.tag c.args.body.now h below short free c.is_closed.ensures.directory at (sym c.is_closed.ensures.tells ∙ c.if-is_closed.false) (let t = c.if-self-from.true in omega (arith, t, cells, used, from))
 
 pub returns-then-is_log_full-clause-refused : goal.returns-then-is_log_full-clause-refused
 returns-then-is_log_full-clause-refused g c h earlier long =
@@ -51,8 +51,8 @@ returns-then-is_log_full-clause-refused g c h earlier long =
     let cells : c.cell_slots.result ≡ cell_count c.args.self.now.state.sizes = c.cell_slots.ensures.number ∙ ap cell_count (c.layout-2.ensures.sizes ∙ ap (λ (s : State). s.sizes) (state_is c.self.view_is)) in
     let used : c.self.inside.cells_in_use ≡ c.args.self.now.state.cells_in_use = ap (λ (s : State). s.cells_in_use) (state_is c.self.view_is) in
     let from : c.from.result ≡ c.cell_slots.result = c.from.ensures in
-    let at : slots_in c.args.self.now.state.sizes c.args.self.now.state.images (directory_at c.args.sender) ≡ Sender c.args.sender c.group.result = ap (λ (s : State). slots_in s.sizes s.images (directory_at c.args.sender)) (sym (state_is c.self.view_is)) ∙ c.group.ensures.held in
-    log_is_full (on earlier c.args.self.now.state) c.args.txn c.args.sender c.args.tag c.args.body.now h below short free c.group.result at c.if-group.false (let t = c.if-self-from.false in omega (arith, t, cells, used, from)) (full_on earlier c.args.self.now.state long _ ∙ sym c.if-is_log_full.ensures)
+    let at : slots_in c.args.self.now.state.sizes c.args.self.now.state.images (directory_at c.args.sender) ≡ Sender c.args.sender c.is_closed.ensures.directory = ap (λ (s : State). slots_in s.sizes s.images (directory_at c.args.sender)) (sym (state_is c.self.view_is)) ∙ c.is_closed.ensures.held in
+    log_is_full (on earlier c.args.self.now.state) c.args.txn c.args.sender c.args.tag c.args.body.now h below short free c.is_closed.ensures.directory at (sym c.is_closed.ensures.tells ∙ c.if-is_closed.false) (let t = c.if-self-from.false in omega (arith, t, cells, used, from)) (full_on earlier c.args.self.now.state long _ ∙ sym c.if-is_log_full.ensures)
 
 pub returns-clause-passes : goal.returns-clause-passes
 returns-clause-passes g c earlier long k h =
@@ -64,5 +64,5 @@ returns-clause-passes g c earlier long k h =
     let cells : c.cell_slots.result ≡ cell_count c.args.self.now.state.sizes = c.cell_slots.ensures.number ∙ ap cell_count (c.layout-2.ensures.sizes ∙ ap (λ (s : State). s.sizes) (state_is c.self.view_is)) in
     let used : c.self.inside.cells_in_use ≡ c.args.self.now.state.cells_in_use = ap (λ (s : State). s.cells_in_use) (state_is c.self.view_is) in
     let from : c.from.result ≡ c.cell_slots.result = c.from.ensures in
-    let at : slots_in c.args.self.now.state.sizes c.args.self.now.state.images (directory_at c.args.sender) ≡ Sender c.args.sender c.group.result = ap (λ (s : State). slots_in s.sizes s.images (directory_at c.args.sender)) (sym (state_is c.self.view_is)) ∙ c.group.ensures.held in
-    passes (on earlier c.args.self.now.state) c.args.txn c.args.sender c.args.tag c.args.body.now h below short free c.group.result at c.if-group.false (let t = c.if-self-from.false in omega (arith, t, cells, used, from)) (full_on earlier c.args.self.now.state long _ ∙ sym c.if-is_log_full.ensures) k
+    let at : slots_in c.args.self.now.state.sizes c.args.self.now.state.images (directory_at c.args.sender) ≡ Sender c.args.sender c.is_closed.ensures.directory = ap (λ (s : State). slots_in s.sizes s.images (directory_at c.args.sender)) (sym (state_is c.self.view_is)) ∙ c.is_closed.ensures.held in
+    passes (on earlier c.args.self.now.state) c.args.txn c.args.sender c.args.tag c.args.body.now h below short free c.is_closed.ensures.directory at (sym c.is_closed.ensures.tells ∙ c.if-is_closed.false) (let t = c.if-self-from.false in omega (arith, t, cells, used, from)) (full_on earlier c.args.self.now.state long _ ∙ sym c.if-is_log_full.ensures) k

@@ -51,7 +51,7 @@ returns-in-Err g c =
     } in
     let mid = c.replace_log.new.self in
     let why : NotCheckpointed g.P.PageDevice g.L.LogDevice c.args.self.now new c.in-Err.refusal =
-    stopped_is g.P.PageDevice g.L.LogDevice c.args.self.now mid new c.in-Err.refusal c.in_ok-check_quiet.ensures.ok c.in-Err.ensures.refused c.in-Err.ensures.cause c.in-Err.ensures.fewer (search rules) (search rules) (search rules) (search rules) in
+    stopped_is g.P.PageDevice g.L.LogDevice c.args.self.now mid new c.in-Err.refusal c.in_ok-check_quiet.ensures.ok c.in-Err.ensures.refused c.in-Err.ensures.cause c.in-Err.ensures.fewer c.in-Err.ensures.behind (search rules) (search rules) (search rules) (search rules) in
     record {
       answered = refused_legally g.P.PageDevice g.L.LogDevice c.args.self.now new (λ lsn. Gave_checkpoint lsn) c.in-Err.refusal why;
       sizes = search rules;

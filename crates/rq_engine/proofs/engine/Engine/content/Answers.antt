@@ -2,6 +2,7 @@ use Rattle.std.proofs.Common.{refl, sym, ap, ◌∙◌}
 use Rattle.rq_txn.specs.Rows.{any_under}
 use Rattle.rq_store.specs.State.{State}
 use Rattle.rq_engine.proofs.Calls.{content_done, content_busy, content_passes}
+use Rattle.rq_engine.proofs.KeptUp.{content_leaves}
 use Rattle.rq_engine.proofs.Refusals.{no_memory}
 use Rattle.rq_engine.proofs.Opened.{state_is}
 use Rattle.rq_engine.specs.Earlier.{on}
@@ -22,4 +23,16 @@ returns-clause-answered g c = elim c.match-content.branch [
       let s = on earlier c.args.self.now.state in
       let why = w.in-Err.ensures.sound s k (ap (λ (s : State). s.sizes) (sym (state_is c.self.view_is))) (ap (λ (s : State). s.images) (sym (state_is c.self.view_is))) (ap (λ (s : State). s.rows) (sym (state_is c.self.view_is))) idle in
       rw why (no_memory s _ c.in_ok-check_running.ensures.running (λ _. content_passes s c.in_ok-check_running.ensures.running idle) (λ k. refl) k))
+]
+
+pub returns-clause-refused : goal.returns-clause-refused
+returns-clause-refused g c = elim c.match-content.branch [
+  | in-Ok w ↦ rw (w.result-is) tt
+  | in-Err w ↦ rw (w.result-is) (content_leaves g.P.PageDevice c.args.self.now _ _ _ _ w.in-Err.ensures.refused).0
+]
+
+pub returns-clause-faults : goal.returns-clause-faults
+returns-clause-faults g c = elim c.match-content.branch [
+  | in-Ok w ↦ rw (w.result-is) refl
+  | in-Err w ↦ rw (w.result-is) (content_leaves g.P.PageDevice c.args.self.now _ _ _ _ w.in-Err.ensures.refused).1
 ]

@@ -1,9 +1,10 @@
-use Rattle.std.proofs.Common.{rules, ◌≡◌, sym, ◌∙◌, subst, arith, length}
+use Rattle.std.proofs.Common.{rules, ◌≡◌, ◌+◌, ◌*◌, sym, ◌∙◌, subst, arith, length}
 use Rattle.std.specs.Vec.{vec_len}
 use Rattle.std.specs.Global.{Vec}
 use Rattle.rq_txn.specs.Rows.{under_of}
 use Rattle.rq_store.specs.State.{State}
 use Rattle.rq_engine.specs.Answers.{HasNothingUnderWay}
+use Rattle.rq_engine.specs.Invariant.{end_bytes}
 use Rattle.rq_engine.specs.Sends.{FitsUnder, HasRoom}
 use Rattle.rq_engine.proofs.Keeping.{kept_back}
 use Rattle.rq_engine.proofs.SendCalls.{start_kept}
@@ -24,12 +25,26 @@ invariant_of-self-in_default g c =
 pub invariant_of-self-2 : goal.invariant_of-self-2
 invariant_of-self-2 g c =
     let ready = subst (λ (s : State). HasNothingUnderWay s c.args.txn c.args.operation.number) (sym (state_is c.self.view_is)) c.requires.ready in
-    let fits = subst (λ (s : State). FitsUnder s.sizes (under_of c.args.operation) c.args.room) (sym (state_is c.self.view_is)) c.requires.fits in
+    let fits = subst (λ (s : State). FitsUnder s.sizes (under_of c.args.operation)) (sym (state_is c.self.view_is)) c.requires.fits in
     let left = subst (λ (s : State). HasRoom s c.args.operation.writes.items) (sym (state_is c.self.view_is)) c.requires.log in
-    let count : c.len.result ≡ length c.args.operation.writes.items = c.len.ensures ∙ items_count c.args.operation.writes in
+    let many : c.len-count.result ≡ length c.args.operation.writes.items = c.len-count.ensures ∙ items_count c.args.operation.writes in
+    let room : length c.args.operation.writes.items * 546 + c.end_len.result ≡ 546 * length c.args.operation.writes.items + end_bytes c.args.operation.aim = (let last = c.end_len.ensures.is in omega (arith, last)) in
     record {
-      kept = rw (c.in-Ok.ensures.ok, c.in_ok-reserve.ensures.ok, count)
-          (start_kept _ _ _ _ c.args.room c.args.txn (under_of c.args.operation) c.self.invariant.kept ready left fits);
+      kept = rw (c.in-Ok.ensures.ok, c.in_ok-reserve.ensures.ok, many)
+          (start_kept _ _ _ _ (length c.args.operation.writes.items * 546 + c.end_len.result) c.args.txn (under_of c.args.operation) c.self.invariant.kept ready left fits room);
       durable = rw (c.in_ok-reserve.ensures.ok) c.self.invariant.durable;
       cells = c.self.invariant.cells;
     }
+
+pub overflow_mul-room : goal.overflow_mul-room
+overflow_mul-room g c =
+    let many : c.len-count.result ≡ length c.args.operation.writes.items = c.len-count.ensures ∙ items_count c.args.operation.writes in
+    let left = c.requires.log in
+    omega (arith, many, left)
+
+pub overflow_add-room : goal.overflow_add-room
+overflow_add-room g c =
+    let many : c.len-count.result ≡ length c.args.operation.writes.items = c.len-count.ensures ∙ items_count c.args.operation.writes in
+    let left = c.requires.log in
+    let few = c.end_len.ensures.few in
+    omega (arith, many, left, few)

@@ -3,13 +3,13 @@ use Rattle.rq_views.specs.InStore.{IsDeedOf}
 use Rattle.rq_level.specs.Asked.{job_back}
 use Rattle.rq_txn.specs.Rows.{Row}
 use Rattle.rq_store.specs.State.{State}
-use Rattle.rq_planner.specs.Answered.{IsPlanned, level_back}
+use Rattle.rq_planner.specs.Answered.{IsAnsweredBack, IsPlanned, level_back}
 use Rattle.rq_planner.specs.Asked.{known_from}
 use Rattle.rq_planner.specs.Asked.Asked.{Undo}
 use Rattle.rq_planner.proofs.Asking.{asks_back, has_place}
 use Rattle.rq_planner.proofs.Knowing.{is_one}
 use Rattle.rq_level.proofs.EachLevel.{all_lawful}
-use Rattle.rq_engine.specs.Plans.{known_part}
+use Rattle.rq_engine.specs.Plans.{LevelsAnswer, known_part}
 use Rattle.rq_engine.proofs.Opened.{state_is}
 use Rattle.rq_engine.proofs.engine.Engine.plan_inverse.Goals as goal
 
@@ -23,6 +23,14 @@ plan_inverse-requires-clause-level g c =
 
 pub invariant_of-self : goal.invariant_of-self
 invariant_of-self g c = record { kept = rw (c.spare-room.ensures) c.self.invariant.kept; durable = c.self.invariant.durable; cells = rw (c.plan_inverse.ensures.same) c.self.invariant.cells }
+
+pub returns-clause-answered : goal.returns-clause-answered
+returns-clause-answered g c =
+    subst (λ (s : State). LevelsAnswer s c.args.told.now c.plan_inverse.result) (state_is c.self.view_is) (record {
+      levels = c.self.inside.planner;
+      knows = c.self.invariant.cells;
+      answered = subst (λ (rows : List Row). IsAnsweredBack (known_from c.self.inside.pages rows) c.self.inside.planner c.args.told.now c.plan_inverse.result) c.spare-room.ensures c.plan_inverse.ensures.answered;
+    })
 
 pub returns-clause-planned : goal.returns-clause-planned
 returns-clause-planned g c d told =

@@ -6,7 +6,7 @@ use Rattle.rq_log.specs.Spelled.{spelled}
 use Rattle.rq_pool.specs.Pooled.{AreOver}
 use Rattle.rq_store.specs.State.{State}
 use Rattle.rq_engine.specs.Opened.{OpenStore}
-use Rattle.rq_engine.proofs.Checkpointing.{base_missed, base_put, whole_or_base}
+use Rattle.rq_engine.proofs.Checkpointing.{base_missed, base_put, kept_same, whole_or_base}
 use Rattle.rq_engine.proofs.Opened.{none_tried, state_is}
 use Rattle.rq_engine.proofs.Refusals.{not_full}
 use Rattle.rq_engine.proofs.engine.Engine.put_base.Goals as goal
@@ -20,6 +20,7 @@ returns-in-Ok-clause-made g c = record {
   durable = search rules;
   pages = search rules;
   clean = search rules;
+  beyond = λ page high. kept_same g.P.PageDevice c.args.self.now.pages c.self.inside.pages.device page (ap (λ (o : OpenStore _ _). o.pages) c.self.view_is);
   replacing = search rules;
   counts = search rules;
 }

@@ -1,4 +1,4 @@
-use Rattle.std.proofs.Common.{refl, ap, true}
+use Rattle.std.proofs.Common.{refl, ap}
 use Rattle.rq_model.specs.declared.refusal.Refusal.{Refusal}
 use Rattle.rq_model.specs.History.Call.{Start_close}
 use Rattle.rq_groups.specs.declared.End.TheVariants.{Sending}
@@ -18,7 +18,7 @@ use Rattle.rq_engine.proofs.CloseCalls.{close_done, refused}
 use Rattle.rq_engine.proofs.Latches.{close_refused, close_unlatched}
 use Rattle.rq_engine.proofs.Leveled.{close_free, close_held, close_plan, refused_for}
 use Rattle.rq_engine.proofs.Refusals.{no_memory}
-use Rattle.rq_engine.proofs.KeptUp.{begun_by, devices_begun, planned_leaves}
+use Rattle.rq_engine.proofs.KeptUp.{begun_by, devices_begun, planned_counts, planned_leaves}
 use Rattle.rq_engine.proofs.engine.Engine.start_close.Goals as goal
 
 pub returns-in_default-clause-answered : goal.returns-in_default-clause-answered
@@ -50,7 +50,7 @@ returns-in-Ok-start_planned-clause-sizes g c =
     ap (λ (x : State). x.sizes) (b.state)
 
 pub returns-in-Ok-start_planned-clause-latched : goal.returns-in-Ok-start_planned-clause-latched
-returns-in-Ok-start_planned-clause-latched g c honest earlier long k =
+returns-in-Ok-start_planned-clause-latched g c earlier long k =
     let s = on earlier c.args.self.now.state in
     close_unlatched s k c.args.txn c.args.sender (close_free s c.args.sender (c.in-Ok-start_planned.ensures.started (Chain (Close c.args.sender)) (chained c.in-Ok.op.level c.in-Ok.op.bytes _ c.in-Ok.ensures.told)).free)
 
@@ -76,7 +76,7 @@ returns-clause-answered g c h earlier long k =
     (no_memory s _ c.in_ok-number.ensures.running (λ k. c.in_ok-check_close.ensures.passes earlier long k c.in_ok-number.ensures.passes) (λ k. refl)) (λ held. refused s c.args.txn c.args.sender c.in_ok-number.ensures.passes (λ k. c.in_ok-check_close.ensures.passes earlier long k c.in_ok-number.ensures.passes) (close_held s c.args.sender held)) k)
 
 pub returns-clause-latched : goal.returns-clause-latched
-returns-clause-latched g c honest earlier long k =
+returns-clause-latched g c earlier long k =
     let s = on earlier c.args.self.now.state in
     let p = c.in-Err.ensures.started (Chain (Close c.args.sender)) (chained c.in-Ok.op.level c.in-Ok.op.bytes _ c.in-Ok.ensures.told) in
     refused_for (OnLatched (IsLatched s (Start_close c.args.txn c.args.sender))) (IsHeldUp (known_part s) (Do (Chain (Close c.args.sender)))) c.in-Err.refusal p.causes (p.sound earlier long k (c.in_ok-check_close.ensures.unclosed earlier long k c.in_ok-number.ensures.passes))
@@ -86,7 +86,7 @@ pub returns-in-Ok-start_planned-clause-begun : goal.returns-in-Ok-start_planned-
 returns-in-Ok-start_planned-clause-begun g c =
     let s = c.args.self.now.state in
     let b : HasStarted s c.args.txn c.in_ok-number.number (Sending c.args.sender) (Chain (Close c.args.sender)) c.start_planned.new.self.state = (c.in-Ok-start_planned.ensures.started (Chain (Close c.args.sender)) (chained c.in-Ok.op.level c.in-Ok.op.bytes _ c.in-Ok.ensures.told)).begun in
-    begun_by s _ _ _ _ b.state
+    (refl, begun_by s c.args.txn c.in_ok-number.number (Sending c.args.sender) s.cells_in_use (Chain (Close c.args.sender)) b.plan _ c.in_ok-number.ensures.ready b.planned.asked b.state)
 
 pub returns-in-Ok-start_planned-clause-devices : goal.returns-in-Ok-start_planned-clause-devices
 returns-in-Ok-start_planned-clause-devices g c =
@@ -97,4 +97,12 @@ returns-in-Ok-start_planned-clause-devices g c =
 pub returns-clause-refused : goal.returns-clause-refused
 returns-clause-refused g c =
     let p = c.in-Err.ensures.started (Chain (Close c.args.sender)) (chained c.in-Ok.op.level c.in-Ok.op.bytes _ c.in-Ok.ensures.told) in
-    planned_leaves true c.args.self.now c.start_planned.new.self _ c.in-Err.refusal p.causes c.in-Err.ensures.refused
+    planned_leaves c.args.self.now c.start_planned.new.self _ c.in-Err.refusal p.causes c.in-Err.ensures.refused
+
+pub returns-in-Ok-start_planned-clause-faults : goal.returns-in-Ok-start_planned-clause-faults
+returns-in-Ok-start_planned-clause-faults g c = ap g.P.PageDevice.faults c.in-Ok-start_planned.ensures.devices.0
+
+pub returns-clause-faults : goal.returns-clause-faults
+returns-clause-faults g c =
+    let p = c.in-Err.ensures.started (Chain (Close c.args.sender)) (chained c.in-Ok.op.level c.in-Ok.op.bytes _ c.in-Ok.ensures.told) in
+    planned_counts g.P.PageDevice _ c.in-Err.refusal p.causes c.args.self.now c.start_planned.new.self c.in-Err.ensures.refused

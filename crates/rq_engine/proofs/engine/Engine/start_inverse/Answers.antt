@@ -1,4 +1,4 @@
-use Rattle.std.proofs.Common.{Some, refl, sym, ◌∙◌, ap, subst, arith}
+use Rattle.std.proofs.Common.{◌≡◌, Some, Ok, Err, refl, sym, ◌∙◌, ap, subst}
 use Rattle.rq_model.specs.declared.record.Record.{Record}
 use Rattle.rq_model.specs.Tests.{undo_cost}
 use Rattle.rq_model.specs.Vocabulary.{is_some}
@@ -10,13 +10,15 @@ use Rattle.rq_txn.specs.Rows.{change_row, row_started}
 use Rattle.rq_store.specs.State.{State, op_done}
 use Rattle.rq_planner.specs.Answered.{IsPlanBack}
 use Rattle.rq_planner.specs.Asked.Asked.{Undo}
-use Rattle.rq_engine.specs.Aborts.{IsTurnedBack}
+use Rattle.rq_engine.specs.Answers.{HasNothingUnderWay}
 use Rattle.rq_engine.specs.Earlier.{on}
 use Rattle.rq_engine.specs.Invariant.{IsDoneConsistent, IsLogged}
-use Rattle.rq_engine.specs.Plans.{HasTurnedBack, known_part}
+use Rattle.rq_level.specs.declared.writes.Plan.{Plan}
+use Rattle.rq_engine.specs.Plans.{HasTurnedBack, LevelsAnswer, known_part, turned_back}
 use Rattle.rq_engine.specs.Sends.{HasRoom}
-use Rattle.rq_engine.proofs.Inverses.{cost_is, few_writes}
-use Rattle.rq_engine.proofs.Leveled.{never_failed, plain_memory, start_answered, start_refused}
+use Rattle.rq_engine.proofs.AbortCalls.{turned_idle}
+use Rattle.rq_engine.proofs.Inverses.{few_writes}
+use Rattle.rq_engine.proofs.Leveled.{begins_planned, never_failed, plain_memory, start_answered, start_refused}
 use Rattle.rq_engine.proofs.Opened.{state_is}
 use Rattle.rq_engine.proofs.SendCalls.{has_room}
 use Rattle.rq_engine.proofs.engine.Engine.start_inverse.Goals as goal
@@ -27,28 +29,23 @@ plan_inverse-requires-clause-logged g c = (c.args.done.now.lsn, subst (λ (r : R
 pub plan_inverse-requires-clause-reads : goal.plan_inverse-requires-clause-reads
 plan_inverse-requires-clause-reads g c = ap is_some (ap deed_back c.op_end_of.ensures ∙ c.requires.kept.reads)
 
-pub start_undo-requires-clause-ready : goal.start_undo-requires-clause-ready
-start_undo-requires-clause-ready g c = subst (λ (x : State). IsTurnedBack x c.args.txn c.args.number (Some c.args.done.now)) (sym (state_is c.in-Ok.ensures.same)) c.requires.ready
+pub launch-requires-clause-ready : goal.launch-requires-clause-ready
+launch-requires-clause-ready g c = subst (λ (x : State). HasNothingUnderWay x c.args.txn c.args.number) (sym (state_is c.in-Ok.ensures.same)) (turned_idle c.args.self.now.state c.args.txn c.args.number (Some c.args.done.now) c.requires.ready)
 
-pub start_undo-requires-clause-kept : goal.start_undo-requires-clause-kept
-start_undo-requires-clause-kept g c = subst (λ (x : State). IsDoneConsistent x.sizes c.args.done.now) (sym (state_is c.in-Ok.ensures.same)) c.requires.kept
-
-pub start_undo-requires-clause-slots : goal.start_undo-requires-clause-slots
-start_undo-requires-clause-slots g c =
+pub launch-requires-clause-fits : goal.launch-requires-clause-fits
+launch-requires-clause-fits g c =
     let s = c.args.self.now.state in
     let p : IsPlanBack (known_part s) c.args.done.now.deed c.in-Ok.plan = (c.in-Ok.ensures.planned c.args.done.now.deed (ap deed_back c.op_end_of.ensures ∙ c.requires.kept.reads) c.requires.kept.sender).plan in
-    subst (λ (x : State). AreSlotWrites x.sizes c.in-Ok.plan.writes.items) (sym (state_is c.in-Ok.ensures.same)) p.slots
+    let kept = subst (λ (x : State). IsDoneConsistent x.sizes c.args.done.now) (sym (state_is c.in-Ok.ensures.same)) c.requires.kept in
+    record {
+      made = refl;
+      slots = subst (λ (x : State). AreSlotWrites x.sizes c.in-Ok.plan.writes.items) (sym (state_is c.in-Ok.ensures.same)) p.slots;
+      sender = kept.sender;
+      fits = kept.lsn;
+    }
 
-pub start_undo-requires-clause-count : goal.start_undo-requires-clause-count
-start_undo-requires-clause-count g c =
-    let s = c.args.self.now.state in
-    let p : IsPlanBack (known_part s) c.args.done.now.deed c.in-Ok.plan = (c.in-Ok.ensures.planned c.args.done.now.deed (ap deed_back c.op_end_of.ensures ∙ c.requires.kept.reads) c.requires.kept.sender).plan in
-    let few = few_writes s.sizes (slots_in s.sizes s.images) c.in-Ok.plan.writes.items c.args.done.now.deed p.follows.0 in
-    let four = cost_is c.args.done.now.deed in
-    omega (arith, few, four)
-
-pub start_undo-requires-clause-log : goal.start_undo-requires-clause-log
-start_undo-requires-clause-log g c =
+pub launch-requires-clause-log : goal.launch-requires-clause-log
+launch-requires-clause-log g c =
     let s = c.args.self.now.state in
     let p : IsPlanBack (known_part s) c.args.done.now.deed c.in-Ok.plan = (c.in-Ok.ensures.planned c.args.done.now.deed (ap deed_back c.op_end_of.ensures ∙ c.requires.kept.reads) c.requires.kept.sender).plan in
     subst (λ (x : State). HasRoom x c.in-Ok.plan.writes.items) (sym (state_is c.in-Ok.ensures.same))
@@ -60,13 +57,13 @@ returns-in-Ok-clause-started g c =
     let f = c.args.done.now in
     let is = c.in-Ok.ensures.planned f.deed (ap deed_back c.op_end_of.ensures ∙ c.requires.kept.reads) c.requires.kept.sender in
     let p : IsPlanBack (known_part s) f.deed c.in-Ok.plan = is.plan in
-    start_answered s (Undo f.deed) (HasTurnedBack s c.args.txn c.args.number f c.start_undo.new.self.state) c.start_undo.result is.free
+    start_answered s (Undo f.deed) (HasTurnedBack s c.args.txn c.args.number f c.launch.new.self.state) c.launch.result is.free
     (λ begun. record {
       writes = c.in-Ok.plan.writes.items;
       planned = record { planned = p.follows.0; slots = p.slots; free = p.follows.1; lowest = p.lowest };
       state = begun ∙ ap (λ (x : State). record x { rows = change_row c.args.txn (row_started (record { number = c.args.number; writes = c.in-Ok.plan.writes.items; made = 0; aim = Undoing f.lsn f.deed })) x.rows }) (state_is c.in-Ok.ensures.same);
     })
-    c.start_undo.ensures.started c.start_undo.ensures.refusal
+    c.launch.ensures.launched c.launch.ensures.refusal
 
 pub returns-in-Err-clause-started : goal.returns-in-Err-clause-started
 returns-in-Err-clause-started g c =
@@ -74,8 +71,28 @@ returns-in-Err-clause-started g c =
     let is = c.in-Err.ensures.planned c.args.done.now.deed (ap deed_back c.op_end_of.ensures ∙ c.requires.kept.reads) c.requires.kept.sender in
     start_refused s (Undo c.args.done.now.deed) _ c.in-Err.why is.causes (λ earlier long k may. is.sound (on earlier s) refl k may)
 
+pub returns-in-Ok-clause-answered : goal.returns-in-Ok-clause-answered
+returns-in-Ok-clause-answered g c =
+    let s = c.args.self.now.state in
+    let f = c.args.done.now in
+    record {
+      plan = Ok c.in-Ok.plan;
+      asked = subst (λ (r : Record). LevelsAnswer s r (Ok c.in-Ok.plan)) c.op_end_of.ensures c.in-Ok.ensures.answered;
+      begun = begins_planned c.in-Ok.plan (λ (p : Plan). c.launch.new.self.state ≡ turned_back s c.args.txn c.args.number f p.writes.items) c.launch.result
+          (λ begun. begun ∙ ap (λ (x : State). turned_back x c.args.txn c.args.number f c.in-Ok.plan.writes.items) (state_is c.in-Ok.ensures.same))
+          c.launch.ensures.launched c.launch.ensures.refusal;
+    }
+
+pub returns-in-Err-clause-answered : goal.returns-in-Err-clause-answered
+returns-in-Err-clause-answered g c =
+    record {
+      plan = Err c.in-Err.why;
+      asked = subst (λ (r : Record). LevelsAnswer c.args.self.now.state r (Err c.in-Err.why)) c.op_end_of.ensures c.in-Err.ensures.answered;
+      begun = refl;
+    }
+
 pub returns-in-Ok-clause-plain : goal.returns-in-Ok-clause-plain
-returns-in-Ok-clause-plain g c = plain_memory c.start_undo.result c.start_undo.ensures.refusal
+returns-in-Ok-clause-plain g c = plain_memory c.launch.result c.launch.ensures.refusal
 
 pub returns-in-Err-clause-plain : goal.returns-in-Err-clause-plain
 returns-in-Err-clause-plain g c =

@@ -1,4 +1,4 @@
-use Rattle.std.proofs.Common.{rules, refl, ap, arith, true}
+use Rattle.std.proofs.Common.{rules, refl, ap, arith}
 use Rattle.rq_model.specs.declared.refusal.Refusal.{Refusal}
 use Rattle.rq_model.specs.History.Call.{Start_mark}
 use Rattle.rq_groups.specs.declared.End.TheVariants.{Marking}
@@ -18,7 +18,7 @@ use Rattle.rq_engine.proofs.MarkCalls.{mark_done, refused}
 use Rattle.rq_engine.proofs.Latches.{mark_refused, mark_unlatched}
 use Rattle.rq_engine.proofs.Leveled.{mark_free, mark_held, mark_plan, refused_for}
 use Rattle.rq_engine.proofs.Refusals.{no_memory, not_full}
-use Rattle.rq_engine.proofs.KeptUp.{begun_by, devices_begun, planned_leaves}
+use Rattle.rq_engine.proofs.KeptUp.{begun_by, devices_begun, planned_counts, planned_leaves}
 use Rattle.rq_engine.proofs.engine.Engine.start_mark.Goals as goal
 
 pub returns-in_default-clause-answered : goal.returns-in_default-clause-answered
@@ -54,7 +54,7 @@ returns-in-Ok-start_planned-clause-sizes g c =
     ap (λ (x : State). x.sizes) (b.state)
 
 pub returns-in-Ok-start_planned-clause-latched : goal.returns-in-Ok-start_planned-clause-latched
-returns-in-Ok-start_planned-clause-latched g c honest earlier long k =
+returns-in-Ok-start_planned-clause-latched g c earlier long k =
     let s = on earlier c.args.self.now.state in
     let mark : Tagging = record { client = c.args.client; tag = c.args.tag } in
     let told = tagged c.in-Ok.op.level c.in-Ok.op.bytes _ (ap (λ (j : Job). j.level) c.in-Ok.ensures.op) c.in-Ok.ensures.told in
@@ -89,7 +89,7 @@ returns-clause-answered g c h earlier long k =
     (no_memory s _ c.in_ok-number.ensures.running (λ k. c.in_ok-check_mark.ensures.passes earlier c.args.tag long k c.in_ok-number.ensures.passes) (λ k. refl)) (λ held. refused s c.args.txn c.args.client c.args.tag c.in_ok-number.ensures.passes (λ k. c.in_ok-check_mark.ensures.passes earlier c.args.tag long k c.in_ok-number.ensures.passes) (mark_held s mark held)) k)
 
 pub returns-clause-latched : goal.returns-clause-latched
-returns-clause-latched g c honest earlier long k =
+returns-clause-latched g c earlier long k =
     let old = c.args.self.now.state in
     let s = on earlier old in
     let mark : Tagging = record { client = c.args.client; tag = c.args.tag } in
@@ -111,7 +111,7 @@ returns-in-Ok-start_planned-clause-begun g c =
     let mark : Tagging = record { client = c.args.client; tag = c.args.tag } in
     let told = tagged c.in-Ok.op.level c.in-Ok.op.bytes _ (ap (λ (j : Job). j.level) c.in-Ok.ensures.op) c.in-Ok.ensures.told in
     let b : HasStarted s c.args.txn c.in_ok-number.number (Marking c.args.client) (Tag mark) c.start_planned.new.self.state = (c.in-Ok-start_planned.ensures.started (Tag mark) told).begun in
-    begun_by s _ _ _ _ b.state
+    (refl, begun_by s c.args.txn c.in_ok-number.number (Marking c.args.client) s.cells_in_use (Tag mark) b.plan _ c.in_ok-number.ensures.ready b.planned.asked b.state)
 
 pub returns-in-Ok-start_planned-clause-devices : goal.returns-in-Ok-start_planned-clause-devices
 returns-in-Ok-start_planned-clause-devices g c =
@@ -126,4 +126,14 @@ returns-clause-refused g c =
     let mark : Tagging = record { client = c.args.client; tag = c.args.tag } in
     let told = tagged c.in-Ok.op.level c.in-Ok.op.bytes _ (ap (λ (j : Job). j.level) c.in-Ok.ensures.op) c.in-Ok.ensures.told in
     let p = c.in-Err.ensures.started (Tag mark) told in
-    planned_leaves true c.args.self.now c.start_planned.new.self _ c.in-Err.refusal p.causes c.in-Err.ensures.refused
+    planned_leaves c.args.self.now c.start_planned.new.self _ c.in-Err.refusal p.causes c.in-Err.ensures.refused
+
+pub returns-in-Ok-start_planned-clause-faults : goal.returns-in-Ok-start_planned-clause-faults
+returns-in-Ok-start_planned-clause-faults g c = ap g.P.PageDevice.faults c.in-Ok-start_planned.ensures.devices.0
+
+pub returns-clause-faults : goal.returns-clause-faults
+returns-clause-faults g c =
+    let mark : Tagging = record { client = c.args.client; tag = c.args.tag } in
+    let told = tagged c.in-Ok.op.level c.in-Ok.op.bytes _ (ap (λ (j : Job). j.level) c.in-Ok.ensures.op) c.in-Ok.ensures.told in
+    let p = c.in-Err.ensures.started (Tag mark) told in
+    planned_counts g.P.PageDevice _ c.in-Err.refusal p.causes c.args.self.now c.start_planned.new.self c.in-Err.ensures.refused

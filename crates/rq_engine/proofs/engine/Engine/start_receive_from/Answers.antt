@@ -1,6 +1,9 @@
 use Rattle.std.proofs.Common.{◌≡◌, ◌<◌, ◌≤◌, true, sym, ap, ◌∙◌, refl, arith, inr}
 use Rattle.rq_model.specs.declared.refusal.Refusal.{Refusal}
 use Rattle.rq_model.specs.History.Call.{Start_receive_from}
+use Rattle.rq_groups.specs.declared.End.TheVariants.{Receiving}
+use Rattle.rq_level.specs.Ops.Doing.{Receive}
+use Rattle.rq_planner.specs.Asked.Task.{Chain}
 use Rattle.rq_page.specs.Sizes.{sender_count}
 use Rattle.rq_groups.specs.Ends.{is_free_for}
 use Rattle.rq_groups.specs.Waiting.{waits}
@@ -15,7 +18,7 @@ use Rattle.rq_engine.proofs.Latches.{from_latched, from_unlatched}
 use Rattle.rq_engine.proofs.Leveled.{refused_for, take_free, take_plan}
 use Rattle.rq_engine.proofs.Opened.{state_is}
 use Rattle.rq_engine.proofs.TakeCalls.{from_refused, log_is_full, none_from_done, receiver_busy, take_done, take_memory, take_started}
-use Rattle.rq_engine.proofs.KeptUp.{begun_by, devices_begun, planned_leaves}
+use Rattle.rq_engine.proofs.KeptUp.{begun_by, devices_begun, planned_counts, planned_leaves}
 use Rattle.rq_engine.proofs.engine.Engine.start_receive_from.Goals as goal
 
 pub returns-then-not-may_receive-clause-answered : goal.returns-then-not-may_receive-clause-answered
@@ -136,10 +139,40 @@ returns-in-Err-clause-latched g c honest earlier long k =
     tt (from_latched (on earlier s) k c.args.txn c.args.sender)
 
 pub returns-in-Ok-clause-begun : goal.returns-in-Ok-clause-begun
-returns-in-Ok-clause-begun g c = begun_by c.args.self.now.state _ _ _ _ c.in-Ok.ensures.started.begun.state
+returns-in-Ok-clause-begun g c =
+    let s = c.args.self.now.state in
+    let n : c.senders.result ≡ sender_count s.sizes = c.senders.ensures.number ∙ ap sender_count (c.layout.ensures.sizes ∙ ap (λ (x : State). x.sizes) (state_is c.self.view_is)) in
+    let lt = c.if-sender-senders.false in
+    let below : c.args.sender < sender_count s.sizes = omega (arith, n, lt) in
+    let free : is_free_for c.args.txn c.args.sender s.ends.receiving ≡ true = ap (λ (x : State). is_free_for c.args.txn c.args.sender x.ends.receiving) (sym (state_is c.self.view_is)) ∙ sym c.if-not-may_receive.ensures in
+    let count : waits s.waiting c.args.sender ≡ c.count.result = ap (λ (x : State). waits x.waiting c.args.sender) (sym (state_is c.self.view_is)) ∙ sym c.count.ensures in
+    let some = c.if-count-eq0.false in
+    let wait : 1 ≤ waits s.waiting c.args.sender = omega (arith, count, some) in
+    let b = c.in-Ok.ensures.started.begun in
+    (refl, (below, free, wait), begun_by s c.args.txn c.in_ok-number.number (Receiving c.args.sender) s.cells_in_use (Chain (Receive c.args.sender)) b.plan _ c.in_ok-number.ensures.ready b.planned.asked b.state)
+
+pub returns-then-count-eq0-clause-none : goal.returns-then-count-eq0-clause-none
+returns-then-count-eq0-clause-none g c =
+    let n : c.senders.result ≡ sender_count c.args.self.now.state.sizes = c.senders.ensures.number ∙ ap sender_count (c.layout.ensures.sizes ∙ ap (λ (s : State). s.sizes) (state_is c.self.view_is)) in
+    let lt = c.if-sender-senders.false in (
+      refl,
+      (
+        (c.in_ok-number.number, c.in_ok-number.ensures.ready),
+        omega (arith, n, lt),
+        ap (λ (s : State). is_free_for c.args.txn c.args.sender s.ends.receiving) (sym (state_is c.self.view_is)) ∙ sym c.if-not-may_receive.ensures,
+        ap (λ (s : State). waits s.waiting c.args.sender) (sym (state_is c.self.view_is)) ∙ sym c.count.ensures ∙ c.if-count-eq0.true,
+        refl,
+      ),
+    )
 
 pub returns-in-Ok-clause-devices : goal.returns-in-Ok-clause-devices
 returns-in-Ok-clause-devices g c = devices_begun g.P.PageDevice c.args.self.now _ _ _ _ c.in-Ok.ensures.devices c.in-Ok.ensures.started.begun.state
 
 pub returns-in-Err-clause-refused : goal.returns-in-Err-clause-refused
-returns-in-Err-clause-refused g c = planned_leaves true c.args.self.now c.start_take.new.self _ c.in-Err.refusal c.in-Err.ensures.started.causes c.in-Err.ensures.refused
+returns-in-Err-clause-refused g c = planned_leaves c.args.self.now c.start_take.new.self _ c.in-Err.refusal c.in-Err.ensures.started.causes c.in-Err.ensures.refused
+
+pub returns-in-Ok-clause-faults : goal.returns-in-Ok-clause-faults
+returns-in-Ok-clause-faults g c = ap g.P.PageDevice.faults c.in-Ok.ensures.devices.0
+
+pub returns-in-Err-clause-faults : goal.returns-in-Err-clause-faults
+returns-in-Err-clause-faults g c = planned_counts g.P.PageDevice _ c.in-Err.refusal c.in-Err.ensures.started.causes c.args.self.now c.start_take.new.self c.in-Err.ensures.refused

@@ -1,9 +1,10 @@
-use Rattle.std.proofs.Common.{rules, ◌∙◌, subst, sym}
+use Rattle.std.proofs.Common.{List, rules, refl, Ok, ◌∙◌, subst, sym}
 use Rattle.rq_model.proofs.Each.{some_is}
 use Rattle.rq_views.specs.Stored.{slots_in}
 use Rattle.rq_level.specs.Asked.{deed_back}
-use Rattle.rq_planner.specs.Answered.{IsHeldUp, RefusesPlan}
-use Rattle.rq_planner.specs.Asked.{known_from}
+use Rattle.rq_planner.specs.Answered.{IsAnsweredBack, IsHeldUp, RefusesPlan}
+use Rattle.rq_txn.specs.Rows.{Row}
+use Rattle.rq_planner.specs.Asked.{known, known_from}
 use Rattle.rq_planner.specs.Asked.Asked.{Undo}
 use Rattle.rq_planner.proofs.Asking.{asks_back}
 use Rattle.rq_planner.proofs.Backs.{can_below, not_held_up, taken_back}
@@ -18,6 +19,13 @@ returns-in-Ok-clause-plan g c =
     let can = (c.in-Ok.ensures.judged d.0 d.1).can in
     taken_back z c.args.pages.now.images c.new-nobody.result c.new-nobody.ensures (deed_back told) d.0 c.in-Ok.plan d.1
     (c.in-Ok.ensures.planned (Undo d.0) (asks_back told d.0 d.1) (can_below z q d.0 can)).plan can
+
+pub returns-in-Ok-clause-answered : goal.returns-in-Ok-clause-answered
+returns-in-Ok-clause-answered g c = record {
+  plan = c.in-Ok.plan;
+  are = refl;
+  answered = subst (λ (rows : List Row). IsAnsweredBack (known c.args.pages.now.sizes c.args.pages.now.images rows) c.args.self.now c.args.told.now (Ok c.in-Ok.plan)) c.new-nobody.ensures c.in-Ok.ensures.answered;
+}
 
 pub returns-in-Err-Latched-clause-refused : goal.returns-in-Err-Latched-clause-refused
 returns-in-Err-Latched-clause-refused g c d told can =
