@@ -1,4 +1,4 @@
-//! Which slots of a chain operations ask for, by their first bytes alone.
+//! Which slots operations ask for, by the first bytes of what is asked for or of the deed alone.
 ghost use Rattle.std.specs.Prelude.{◌≡◌, ◌+◌, ◌≤◌, cond, nat_eq, None, Some, drop, length};
 ghost use Rattle.byteorder.specs.Endian.{big_number};
 ghost use Rattle.rq_model.specs.Deeds.{deed_in};

@@ -133,7 +133,7 @@ impl<B: Level> Levels<B> {
         it.redo(page, lsn, record)
     }
 
-    /// Tells each level of a slot that keeps anything of it, in the order of their numbers.
+    /// Tells what a slot holds to each level that keeps anything of it, in the order of their numbers.
     pub fn noted(&mut self, at: Addr, bytes: &Slot)
         ensures { AreTold at bytes.now self.old self.new }
     {

@@ -106,7 +106,7 @@ impl DirectorySlot {
         DirectorySlot {
             sender: u32_at(bytes, 4),
             directory: Directory {
-                closed: bytes[0] == 2,
+                closed: DirectorySlot::tells_closed(bytes),
                 sent: u64_at(bytes, 8),
                 received: u64_at(bytes, 16),
                 last_tag: u64_at(bytes, 24),
@@ -114,5 +114,13 @@ impl DirectorySlot {
                 tail: Addr::from_number(u64_at(bytes, 40)),
             },
         }
+    }
+
+    /// Whether these bytes tell a closed group. Of a slot that was checked that is what it holds.
+    #[tactic(auto, unfolding(crate::specs::Directories::directory_in))]
+    pub fn tells_closed(bytes: &Slot) -> bool
+        ensures { result ≡ (directory_in bytes.now).directory.closed }
+    {
+        bytes[0] == 2
     }
 }

@@ -1,5 +1,5 @@
--- What a call may make of pages that changes none of them: some are read, and some are written out whose last record is
--- forced.
+-- What a call may make of pages that changes none of them: some are read, and some that count as changed are written out, where
+-- their last record is forced.
 use Rattle.std.specs.Prelude.{◌≡◌, ◌⊎◌, ℕ, ◌≤◌, true, false, List}
 use Rattle.rq_disk.specs.Device.{Leaves, Elapses}
 use Rattle.rq_disk.specs.declared.device.PageDevice.{Ghosts}
@@ -28,8 +28,8 @@ module _ {P : Type 0} (g : Ghosts P) (forced : ℕ) where
     pub reads : g.honest new.device → g.seen new.device p ≡ image_at old.images p
 
   -- Pages are kept up. Where the device is honest, each has its image. None counts as changed that did not, and one that does so
-  -- no more is written out. The device reads the others as before. A crash, now or at any moment of it, leaves of each what it
-  -- might have left, or an image that is forced.
+  -- no more is written out. The device reads each that did not count as changed as before. A crash, now or at any moment of it,
+  -- leaves of each what it might have left, or its image, if that was changed and is forced.
   pub record IsKeptUp (old new : Pooled P) : Type 0 where
     pub sizes : new.sizes ≡ old.sizes
     pub images : g.honest new.device → new.images ≡ old.images

@@ -69,8 +69,8 @@ pub(crate) fn note_group(closed: &mut Index, layout: &Layout, frames: &[Frame], 
     ensures same { length closed.new ≡ length closed.old }
 {
     if let Some(sender) = sender_of(layout, at) {
-        let held = DirectorySlot::read(slot_in(frames, at));
-        closed.put(sender as usize, held.directory.closed);
+        let is_closed = DirectorySlot::tells_closed(slot_in(frames, at));
+        closed.put(sender as usize, is_closed);
     }
 }
 

@@ -17,7 +17,7 @@ use rq_pool::Pages;
 use std::alloc::Global;
 
 /// The tables that an engine keeps in memory: of each sender how many messages wait, and what its sends come to, and of each
-/// client its marks; the locks, of which none is held; and the planner, which has the table of free cells.
+/// client its marks; the locks, of which none is held; and the planner, which has the levels.
 #[derive(Drop)]
 pub(crate) struct EngineTables<B: Level> {
     pub waiting: Waiting,
@@ -95,7 +95,7 @@ fn read_clients<P: PageDevice + Drop>(pages: &Pages<P>, senders: u32, clients: u
     }
 }
 
-/// Tells the levels of a planner, as they were handed in, each cell.
+/// Tells the levels of a planner, as they were handed in, each slot that they keep anything of.
 pub(crate) fn tell_cells<P: PageDevice + Drop, B: Level>(pages: &Pages<P>, planner: &mut Planner<B>)
     requires { AreForStores planner.old }
     ensures { KnowsCells pages.now.sizes pages.now.images planner.new }
