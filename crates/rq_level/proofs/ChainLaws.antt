@@ -18,6 +18,7 @@ use Rattle.rq_level.specs.Asked.{AreWanted, IsGathered, job_back, TellsDeedOf, A
 use Rattle.rq_level.specs.ChainPlans as chain
 use Rattle.rq_level.specs.ChainPlans.{Plans, PlansFor, Undoes, chain_plans, chain_undoes, job_wanted}
 use Rattle.rq_level.specs.Given.{AreGiven, given_at}
+use Rattle.rq_level.specs.Lawful.{TellsDeed}
 use Rattle.rq_level.specs.LevelState.{LevelState, IsLowest, is_free_slot, noted, noted_cell, reserved_at}
 use Rattle.rq_level.specs.Meaning.{AreOf, Meaning, chain_meaning, level_count}
 use Rattle.rq_level.specs.Ops.{Doing, Job, doing_by, doing_in}
@@ -236,17 +237,17 @@ back_chooses k _ given latched p after h = absurd h
 
 -- ---- the deed that a plan tells
 
-deed_read : (z : Option Sizes) (d : Option Doing) (k : LevelState) (given : List Given) (latched : List ℕ) (p : Plan) (after : LevelState) → Plans z d k given latched (Ok p) after → is_some (deed_in p.deed) ≡ true
-deed_read (Some z) (Some (Send s tag body)) k given latched p after h = ap is_some h.reads
-deed_read (Some z) (Some (Receive s)) k given latched p after h = ap is_some h.reads
-deed_read (Some z) (Some (Close s)) k given latched p after h = ap is_some h.reads
-deed_read (Some z) None k given latched p after h = absurd h
-deed_read None (Some d) k given latched p after h = absurd h
-deed_read None None k given latched p after h = absurd h
+deed_told : (z : Option Sizes) (d : Option Doing) (k : LevelState) (given : List Given) (latched : List ℕ) (p : Plan) (after : LevelState) → Plans z d k given latched (Ok p) after → TellsDeed 1 p.deed
+deed_told (Some z) (Some (Send s tag body)) k given latched p after h = record { deed = _; spelled = h.deed; reads = h.reads }
+deed_told (Some z) (Some (Receive s)) k given latched p after h = record { deed = _; spelled = h.deed; reads = h.reads }
+deed_told (Some z) (Some (Close s)) k given latched p after h = record { deed = _; spelled = h.deed; reads = h.reads }
+deed_told (Some z) None k given latched p after h = absurd h
+deed_told None (Some d) k given latched p after h = absurd h
+deed_told None None k given latched p after h = absurd h
 
-pub plan_told : (undo : Bool) (z : Option Sizes) (d : Option Doing) (k : LevelState) (given : List Given) (latched : List ℕ) (p : Plan) (after : LevelState) → PlansFor undo z d k given latched (Ok p) after → is_some (deed_in p.deed) ≡ true
+pub plan_told : (undo : Bool) (z : Option Sizes) (d : Option Doing) (k : LevelState) (given : List Given) (latched : List ℕ) (p : Plan) (after : LevelState) → PlansFor undo z d k given latched (Ok p) after → TellsDeed 1 p.deed
 plan_told true z d k given latched p after h = absurd h
-plan_told false z d k given latched p after h = deed_read z d k given latched p after h
+plan_told false z d k given latched p after h = deed_told z d k given latched p after h
 
 -- what its end replies, by the deed that it tells
 by_deed : (p : Plan) (d e : Deed) → p.reply ≡ replies.Deed (gist_of d) → deed_in p.deed ≡ Some d → deed_in p.deed ≡ Some e → p.reply ≡ replies.Deed (gist_of e)

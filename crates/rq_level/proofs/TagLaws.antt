@@ -28,7 +28,7 @@ use Rattle.rq_views.proofs.Overlay.{put_at}
 use Rattle.rq_views.proofs.Tags.{tag_stays}
 use Rattle.rq_level.specs.Asked.{AreWanted, TellsDeedOf, reply_back, job_back, AreOver, AreBackOver, AreWritten, AreAsGiven, AreOverSlots, Chooses, ChoosesBack, AreOfSlots, AreBackOfSlots, IsOver, written_at}
 use Rattle.rq_level.specs.Given.{GivenHolds, HoldsBytes, IsGiven, given_at}
-use Rattle.rq_level.specs.Lawful.{IsLawful, IsUntouchedAt, MayHaveNoPlan}
+use Rattle.rq_level.specs.Lawful.{IsLawful, IsUntouchedAt, MayHaveNoPlan, TellsDeed}
 use Rattle.rq_level.specs.LevelState.{LevelState}
 use Rattle.rq_level.specs.Meaning.{AreOf, level_count, tag_meaning}
 use Rattle.rq_level.specs.Ops.{Job, Tagging, tagging_by, tagging_in}
@@ -180,8 +180,8 @@ module _ (k : LevelState) (given : List Given) (p : Plan) (after : LevelState) w
   does true z t h = absurd h
   does false z t h = refl
 
-  tells : (job : Job) (latched : List ℕ) → tag_plans k job given latched (Ok p) after → is_some (deed_by 2 p.deed) ≡ true
-  tells job latched h = ap is_some (marks job.undo k.sizes (tagging_by job.level job.bytes) h).4.reads
+  tells : (job : Job) (latched : List ℕ) → tag_plans k job given latched (Ok p) after → TellsDeed 2 p.deed
+  tells job latched h = let m = (marks job.undo k.sizes (tagging_by job.level job.bytes) h).4 in record { deed = _; spelled = m.deed; reads = m.reads }
 
   answers : (job : Job) (latched : List ℕ) → tag_plans k job given latched (Ok p) after → (d : Deed) → deed_by 2 p.deed ≡ Some d → p.reply ≡ replies.Deed (gist_of d)
   answers job latched h d told =

@@ -4,7 +4,7 @@ use Rattle.rq_model.specs.declared.record.Record.{Record}
 use Rattle.rq_model.specs.declared.refusal.Refusal.{Refusal}
 use Rattle.rq_model.specs.declared.refusal.Refusal.TheVariants as why
 use Rattle.rq_model.specs.declared.record.Deed.{Deed}
-use Rattle.rq_model.specs.Deeds.{deed_by}
+use Rattle.rq_model.specs.Deeds.{deed_by, spelled_deed}
 use Rattle.rq_model.specs.Vocabulary.{is_some}
 use Rattle.rq_page.specs.Sizes.{Sizes, IsCellAddress, place_of}
 use Rattle.rq_views.specs.Chain.{View}
@@ -37,6 +37,12 @@ MayHaveNoPlan _ = ⊥
 abbrev pub IsUntouchedAt : ℕ → LevelState → LevelState → Type 0
 IsUntouchedAt i now k = (now.sizes ≡ k.sizes) × (flag_at now.free i ≡ flag_at k.free i)
     × (flag_at now.reserved i ≡ flag_at k.reserved i)
+
+-- these bytes are the spelling of a deed, which the level reads
+pub record TellsDeed (n : ℕ) (bytes : List ℕ) : Type 0 where
+  pub deed : Deed
+  pub spelled : bytes ≡ spelled_deed deed
+  pub reads : deed_by n bytes ≡ Some deed
 
 -- of the level of this number
 pub record IsLawful (n : ℕ) (m : Meaning) : Type 0 where
@@ -75,8 +81,8 @@ pub record IsLawful (n : ℕ) (m : Meaning) : Type 0 where
   -- it asks for no slot twice, and for three at most
   pub asks : (z : Option Sizes) (job : Job) (given : List Given) → IsNotGiven given (m.want z job given)
   pub few : (z : Option Sizes) (job : Job) (given : List Given) → IsGathered m z job given → length given ≤ 3
-  -- a plan tells a deed that the level reads; what takes something back tells none
-  pub told : OfPlans m (λ k job given latched p after. is_some (deed_by n p.deed) ≡ true)
+  -- a plan tells a deed of the level, by its spelling; what takes something back tells none
+  pub told : OfPlans m (λ k job given latched p after. TellsDeed n p.deed)
   pub silent : OfBacks m (λ k told given latched p after. p.deed ≡ [])
   -- a plan replies what its deed tells, with what is counted of that; what takes an operation back, that it is undone
   pub replies : OfPlans m (λ k job given latched p after. (d : Deed) → deed_by n p.deed ≡ Some d
