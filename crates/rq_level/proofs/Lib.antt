@@ -14,3 +14,4 @@ pub mod TakenBack
 pub mod TagLaws
 pub mod Counted
 pub mod Superblock
+pub mod Worked

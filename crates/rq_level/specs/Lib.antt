@@ -12,3 +12,4 @@ pub mod Asked
 pub mod OwnState
 pub mod TakenBack
 pub mod Lawful
+pub mod Worked
