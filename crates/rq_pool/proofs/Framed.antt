@@ -8,6 +8,7 @@ use Rattle.rq_page.specs.Formatted.{IsHeaderOf}
 use Rattle.rq_level.specs.Meaning.{AppliesOnce, Redo}
 use Rattle.rq_pool.specs.declared.Frame.{Frame}
 use Rattle.rq_pool.specs.Writing.{IsUnwritten}
+use Rattle.rq_pool.specs.Held.{Held}
 use Rattle.rq_pool.specs.Frames.{image_of, images_of, framed_at, was_changed, changed_of}
 
 -- the page in a frame
@@ -68,10 +69,10 @@ pub framed_got : (fs : List Frame) (i : ℕ) (f : Frame) → (i < length fs) × 
 framed_got fs i f got = framed_read fs i f got.0 ∙ ap image_of (sym (got.1 f))
 
 -- it is to be written, and its record is forced
-pub forced_frame : {P : Type 0} (device : P) (z : Sizes) (fs : List Frame) (i : ℕ) (f : Frame) (lsn forced : ℕ) → length (images_of fs) ≡ page_count z
+pub forced_frame : {P : Type 0} (device : P) (z : Sizes) (held : List Held) (apart : Option ℕ) (fs : List Frame) (i : ℕ) (f : Frame) (lsn forced : ℕ) → length (images_of fs) ≡ page_count z
     → (i < length fs) × ((d : Frame) → f ≡ slice_index_or fs i d) → f.changed ≡ true → lsn ≡ lsn_of (image_of f) → lsn ≤ forced
-    → IsUnwritten (record { device = device; sizes = z; images = images_of fs; changed = changed_of fs }) i × (lsn_of (framed_at fs i) ≤ forced)
-forced_frame device z fs i f lsn forced count got changed told low = (
+    → IsUnwritten (record { device = device; sizes = z; images = images_of fs; changed = changed_of fs; frames = held; apart = apart }) i × (lsn_of (framed_at fs i) ≤ forced)
+forced_frame device z held apart fs i f lsn forced count got changed told low = (
   record {
     of_store = (let long = length-map fs image_of in let within = got.0 in omega (arith, long, count, within));
     changed = get_or-map was_changed fs i f _ got.0 ∙ ap was_changed (sym (got.1 f)) ∙ changed;

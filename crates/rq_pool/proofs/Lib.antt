@@ -7,3 +7,4 @@ pub mod Kept
 pub mod Over
 pub mod Growths
 pub mod KeptUp
+pub mod Fetched

@@ -1,7 +1,8 @@
--- The images of pages in frames, and which of them were changed.
-use Rattle.std.specs.Prelude.{ℕ, Bool, List, map}
+-- Pages in frames: their images, which of them were changed, and where they stand.
+use Rattle.std.specs.Prelude.{ℕ, zero, suc, Bool, false, List, [], ◌∷◌, map}
 use Rattle.rq_pool.specs.declared.Frame.{Frame}
 use Rattle.rq_pool.specs.Pooled.{image_at}
+use Rattle.rq_pool.specs.Held.{Held}
 
 abbrev pub image_of : Frame → List ℕ
 image_of frame = frame.page
@@ -18,3 +19,8 @@ was_changed frame = frame.changed
 
 abbrev pub changed_of : List Frame → List Bool
 changed_of frames = map was_changed frames
+
+-- so many frames, the first of them with page p, each other with the page behind the one before; nobody has fixed any
+abbrev pub in_order : ℕ → ℕ → List Held
+in_order p zero = []
+in_order p (suc n) = record { page = p; fixed = false } ∷ in_order (suc p) n

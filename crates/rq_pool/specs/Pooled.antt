@@ -1,9 +1,10 @@
 -- What contracts see of the pages of a store.
-use Rattle.std.specs.Prelude.{◌≡◌, ℕ, ◌<◌, ◌≤◌, Bool, false, List, [], length, slice_index_or}
+use Rattle.std.specs.Prelude.{◌≡◌, ℕ, ◌<◌, ◌≤◌, Bool, false, List, [], length, slice_index_or, Option}
 use Rattle.rq_page.specs.Sizes.{Sizes, IsInRange, page_count}
 use Rattle.rq_page.specs.Formatted.{IsFormatted, IsHeaderOf}
 use Rattle.rq_views.specs.Stored.{AreSlots}
 use Rattle.rq_disk.specs.declared.device.PageDevice.{Ghosts}
+use Rattle.rq_pool.specs.Held.{Held}
 
 pub record Pooled (P : Type 0) : Type 0 where
   pub device : P
@@ -12,6 +13,10 @@ pub record Pooled (P : Type 0) : Type 0 where
   pub images : List (List ℕ)
   -- whether each page was changed since it was read or written
   pub changed : List Bool
+  -- which page stands in each frame
+  pub frames : List Held
+  -- the page that was read last and stands in no frame
+  pub apart : Option ℕ
 
 -- the image of a page
 abbrev pub image_at : List (List ℕ) → ℕ → List ℕ

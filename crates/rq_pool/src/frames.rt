@@ -59,6 +59,7 @@ pub(crate) fn redo_frame<B: Level>(
 /// Has a page count as changed, or as written.
 pub(crate) fn mark(frames: &mut Vec<Frame>, page: u32, changed: bool)
     requires { page < length frames.old.items }
+    ensures count { length frames.new.items ≡ length frames.old.items }
     ensures images { images_of frames.new.items ≡ images_of frames.old.items }
     ensures changed { changed_of frames.new.items ≡ slice_set (changed_of frames.old.items) page changed }
 {

@@ -55,8 +55,9 @@ pub enum Written {
     Nothing,
 }
 
-/// Every page of the store, by number. Contracts see the device, the sizes, the images, and of each page
-/// whether it was changed since it was read or written.
+/// Every page of the store, by number. Contracts see the device, the sizes, the images, of each page whether it was
+/// changed since it was read or written, and which page stands in each frame. Here each stands in the frame of its
+/// number; by contract of a read (`look`) one may stand in none.
 #[derive(Drop)]
 pub struct Pages<P: PageDevice> {
     device: P,
@@ -70,8 +71,9 @@ pub struct Pages<P: PageDevice> {
 
 impl<P: PageDevice> Model for Pages<P> {
     ghost use Rattle.rq_pool.specs.Pooled.{Pooled, AreOver};
-    ghost use Rattle.rq_pool.specs.Frames.{images_of, changed_of};
+    ghost use Rattle.rq_pool.specs.Frames.{changed_of, images_of, in_order};
     ghost use Rattle.rq_pool.specs.Indexed.{IsIndex, closed_groups, free_cells};
+    ghost use Rattle.std.specs.Prelude.{None, length};
 
     ghost Value = { Pooled P };
 
@@ -80,6 +82,8 @@ impl<P: PageDevice> Model for Pages<P> {
       sizes = p.layout;
       images = images_of p.frames.items;
       changed = changed_of p.frames.items;
+      frames = in_order 0 (length p.frames.items);
+      apart = None;
     } };
 
     ghost invariant = { λ p. AreOver P.PageDevice p.device p.layout (images_of p.frames.items)
@@ -148,11 +152,20 @@ impl<P: PageDevice + Drop> Pages<P> {
 impl<P: PageDevice> Pages<P> {
     ghost use Rattle.rq_pool.specs.Writing.{AnswersWhen, DeviceAfter, HasChangeBeyond, IsRedoAt, IsUnwritten, MayHaveSynced, NoChangeBeyond, changed_after};
     ghost use Rattle.rq_pool.specs.Pooled.{AreOver};
+    ghost use Rattle.rq_pool.specs.Held.{IsFramed};
+    ghost use Rattle.rq_pool.specs.Fetching.{Fetches};
 
     /// What is so of the pages of each store, for proofs: it runs no code. Where the device has been honest, each page
     /// that doesn't count as changed reads there as its image.
     pub fn shows_kept(&self)
         ensures { AreOver P.PageDevice self.now.device self.now.sizes self.now.images self.now.changed }
+    {
+        let _layout = self.layout;
+    }
+
+    /// Each page stands in a frame, so no read fails, for proofs: it runs no code.
+    pub fn shows_framed(&self)
+        ensures { (p : ℕ) → p < page_count self.now.sizes → IsFramed self.now.frames p }
     {
         let _layout = self.layout;
     }
@@ -251,6 +264,8 @@ impl<P: PageDevice> Pages<P> {
         ensures sizes { self.new.sizes ≡ self.old.sizes }
         ensures device { DeviceAfter P.PageDevice page
             (image_at self.old.images page) self.old.device self.new.device result }
+        ensures frames { self.new.frames ≡ self.old.frames }
+        ensures apart { self.new.apart ≡ self.old.apart }
     {
         let Some(frame) = self.frames.get(page as usize) else {
             return Ok(Written::Nothing);
@@ -295,6 +310,19 @@ impl<P: PageDevice> Pages<P> {
         }
     }
 
+    /// Has a page be at hand, in a frame or apart. What stands in no frame is read in one device call.
+    ///
+    /// # Errors
+    /// `DiskRead`; `Damaged`, where the device has lied and gave no page of a store.
+    pub fn look(&mut self, number: u32) -> Result<(), Refusal>
+        requires low { 1 ≤ number }
+        requires high { number < page_count self.old.sizes }
+        ensures { Fetches P.PageDevice number self.old result self.new }
+    {
+        self.shows_framed();
+        Ok(())
+    }
+
     /// Makes what was written to the device durable.
     ///
     /// # Errors
@@ -323,6 +351,23 @@ impl<P: PageDevice> Pages<P> {
         DirectorySlot::read(self.slot_bytes(at)).directory
     }
 
+    /// What the directory says of a sender, whose page is at hand or is read, as by `look`.
+    ///
+    /// # Errors
+    /// As of `look`.
+    pub fn read_group(&mut self, sender: u32) -> Result<Directory, Refusal>
+        requires { sender < sender_count self.old.sizes }
+        ensures held { IfOk result (λ d. slots_in self.new.sizes self.new.images (directory_at sender) ≡ Sender sender d) }
+        ensures fits { IfOk result (λ d. IsDirectoryOf self.new.sizes sender (record { sender = sender; directory = d })) }
+        ensures fetched { Fetches P.PageDevice (directory_at sender / 16) self.old result self.new }
+    {
+        let at = self.layout().directory_of(sender);
+        match self.look(at.page() as u32) {
+            Ok(()) => Ok(self.group(sender)),
+            Err(refusal) => Err(refusal),
+        }
+    }
+
     /// Whether a sender's group is closed, as its directory slot tells it. No page is read.
     pub fn is_closed(&self, sender: u32) -> bool
         requires { sender < sender_count self.now.sizes }
@@ -349,6 +394,23 @@ impl<P: PageDevice> Pages<P> {
         match CellSlot::read(self.slot_bytes(at)) {
             Some(CellSlot::Used(cell)) => Some(cell),
             _ => None,
+        }
+    }
+
+    /// The cell at an address, whose page is at hand or is read, as by `look`; none where it is free.
+    ///
+    /// # Errors
+    /// As of `look`.
+    pub fn read_cell(&mut self, at: Addr) -> Result<Option<Cell>, Refusal>
+        requires { IsCellAddress self.old.sizes at }
+        ensures held { IfOk result (λ cell. cell_in (slots_in self.new.sizes self.new.images at) ≡ cell) }
+        ensures fits { IfOk result (λ cell. IfSome cell (λ c. IsCellOf self.new.sizes c)) }
+        ensures fetched { Fetches P.PageDevice (at / 16) self.old result self.new }
+    {
+        let _layout = self.layout();
+        match self.look(at.page() as u32) {
+            Ok(()) => Ok(self.cell(at)),
+            Err(refusal) => Err(refusal),
         }
     }
 

@@ -1,0 +1,61 @@
+-- Pages that all stand in frames, and pages that were read again one after the other.
+use Rattle.std.proofs.Common.{◌≡◌, ℕ, zero, suc, ◌+◌, ◌<◌, List, length, refl, sym, ap, subst, arith, ◌∙◌, inl, Ok}
+use Rattle.rq_disk.specs.declared.device.PageDevice.{Ghosts}
+use Rattle.rq_pool.specs.Pooled.{Pooled}
+use Rattle.rq_pool.specs.Held.{Held, IsFramed, page_at}
+use Rattle.rq_pool.specs.Frames.{in_order}
+use Rattle.rq_pool.specs.Reading.{OnlyRead}
+use Rattle.rq_pool.specs.Fetching.{Fetches, MayHaveRead}
+use Rattle.rq_pool.proofs.KeptUp.{kept_still, kept_then}
+use Rattle.rq_pool.proofs.Readings.{only_read_on}
+
+length_in_order : (p n : ℕ) → length (in_order p n) ≡ n
+length_in_order p zero = refl
+length_in_order p (suc n) = ap suc (length_in_order (suc p) n)
+
+page_in_order : (p n i : ℕ) → i < n → page_at (in_order p n) i ≡ p + i
+page_in_order p zero i lt = absurd (omega (arith, lt))
+page_in_order p (suc n) zero lt = omega arith
+page_in_order p (suc n) (suc i) lt = page_in_order (suc p) n i (omega (arith, lt)) ∙ omega arith
+
+-- each page stands in the frame of its number
+pub stands : (frames : List Held) (n p : ℕ) → frames ≡ in_order 0 n → p < n → IsFramed frames p
+stands frames n p is lt = subst (λ (f : List Held). IsFramed f p) (sym is) (record {
+  at = p;
+  within = (let long = length_in_order 0 n in omega (arith, long, lt));
+  is = page_in_order 0 n p lt ∙ omega arith;
+})
+
+module _ {P : Type 0} (g : Ghosts P) where
+  -- a device that was not called was only read
+  pub read_none : (d : P) → OnlyRead g d d
+  read_none d = record {
+    same = refl;
+    honest = λ h. h;
+    crash = λ p c may. may;
+    time = record { later = omega arith; nothing_else = λ t c before since. inl since; keeps = λ t c before past. past };
+  }
+
+  -- none was read
+  pub still_read : (old : Pooled P) → MayHaveRead g old old
+  still_read old = record { kept = λ forced. kept_still g forced old old refl refl refl refl; frames = refl; changed = refl; device = read_none old.device }
+
+  -- some were read, and then some
+  pub read_then : (old mid new : Pooled P) → MayHaveRead g old mid → MayHaveRead g mid new → MayHaveRead g old new
+  read_then old mid new a b = record {
+    kept = λ forced. kept_then g forced old mid new (a.kept forced) (b.kept forced);
+    frames = b.frames ∙ a.frames;
+    changed = b.changed ∙ a.changed;
+    device = only_read_on g old.device mid.device new.device a.device b.device;
+  }
+
+  -- a page that stands in a frame is at hand, and nothing happens
+  pub fetched_still : {X : Type 0} (n : ℕ) (x : X) (old new : Pooled P) → new ≡ old → IsFramed old.frames n → Fetches g n old (Ok x) new
+  fetched_still n x old new same framed = subst (λ (s : Pooled P). Fetches g n old (Ok x) s) (sym same) (record {
+    stood = λ at. (refl, refl);
+    hand = inl framed;
+    refused = tt;
+    counted = refl;
+    read = still_read old;
+    others = λ p other. refl;
+  })

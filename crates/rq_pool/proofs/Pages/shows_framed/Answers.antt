@@ -1,0 +1,15 @@
+use Rattle.std.proofs.Common.{◌<◌, ℕ, length, refl, subst, arith}
+use Rattle.std.proofs.lemmas.List.{length-map}
+use Rattle.rq_page.specs.Sizes.{page_count}
+use Rattle.rq_pool.specs.Frames.{image_of}
+use Rattle.rq_pool.specs.Held.{IsFramed}
+use Rattle.rq_pool.specs.Pooled.{Pooled}
+use Rattle.rq_pool.proofs.Fetched.{stands}
+use Rattle.rq_pool.proofs.Pages.shows_framed.Goals as goal
+
+pub returns : goal.returns
+returns g c =
+    let frames = c.self.inside.frames.items in
+    let count = c.self.invariant.0.pool.count in
+    let long = length-map frames image_of in
+    subst (λ (v : Pooled _). (p : ℕ) → p < page_count v.sizes → IsFramed v.frames p) c.self.view_is (λ p lt. stands _ (length frames) p refl (omega (arith, count, long, lt)))

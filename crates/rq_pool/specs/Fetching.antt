@@ -1,0 +1,50 @@
+-- What reading a page of a store again may do.
+use Rattle.std.specs.Prelude.{◌≡◌, ◌≢◌, ◌⊎◌, ℕ, ◌+◌, ◌%◌, ◌^◌, ◌<◌, Option, Some, Result, IsOk, IfErr, OnOk}
+use Rattle.rq_model.specs.declared.refusal.Refusal.{Refusal}
+use Rattle.rq_model.specs.declared.refusal.Refusal.TheVariants as why
+use Rattle.rq_model.specs.declared.refusal.Damage.TheVariants as damage
+use Rattle.rq_disk.specs.declared.device.PageDevice.{Ghosts}
+use Rattle.rq_page.specs.Sizes.{page_count}
+use Rattle.rq_pool.specs.Pooled.{Pooled, image_at}
+use Rattle.rq_pool.specs.Held.{IsFramed}
+use Rattle.rq_pool.specs.Reading.{OnlyRead}
+use Rattle.rq_pool.specs.KeptUp.{IsKeptUp}
+
+-- the page stands in a frame, or apart
+abbrev pub IsAtHand : {P : Type 0} → Pooled P → ℕ → Type 0
+IsAtHand pages page = IsFramed pages.frames page ⊎ (pages.apart ≡ Some page)
+
+-- a page stands in no frame
+pub record HasOutside {P : Type 0} (pages : Pooled P) : Type 0 where
+  pub page : ℕ
+  pub within : page < page_count pages.sizes
+  pub outside : IsFramed pages.frames page → ⊥
+
+-- What was done to pages of which some were read again, whatever the device is.
+pub record MayHaveRead {P : Type 0} (g : Ghosts P) (old new : Pooled P) : Type 0 where
+  -- they are kept up, and none is written out
+  pub kept : (forced : ℕ) → IsKeptUp g forced old new
+  -- the same pages stand in the same frames
+  pub frames : new.frames ≡ old.frames
+  -- the same ones count as changed
+  pub changed : new.changed ≡ old.changed
+  -- the device was only read
+  pub device : OnlyRead g old.device new.device
+
+-- why a page was not read: its device failed, or is not honest and gave no page of a store
+abbrev pub NotFetched : {P : Type 0} → Ghosts P → ℕ → Refusal → P → P → Type 0
+NotFetched g page why.DiskRead old new = g.faults new ≡ (g.faults old + 1) % 2 ^ 64
+NotFetched g page (why.Damaged (damage.Page n)) old new = (n ≡ page) × (g.honest new → ⊥) × (g.faults new ≡ g.faults old)
+NotFetched g page _ old new = ⊥
+
+-- What a call answers that has a page be at hand, and leaves.
+pub record Fetches {P X : Type 0} (g : Ghosts P) (page : ℕ) (old : Pooled P) (result : Result X Refusal) (new : Pooled P)
+    : Type 0 where
+  -- nothing happens where it is at hand already
+  pub stood : IsAtHand old page → IsOk result × (new ≡ old)
+  pub hand : OnOk result (IsAtHand new page)
+  pub refused : IfErr result (λ e. NotFetched g page e old.device new.device)
+  pub counted : OnOk result (g.faults new.device ≡ g.faults old.device)
+  pub read : MayHaveRead g old new
+  -- whatever the device is, each other page has its image
+  pub others : (p : ℕ) → p ≢ page → image_at new.images p ≡ image_at old.images p
