@@ -40,7 +40,7 @@ module _ {P : Type 0} (g : Ghosts P) (forced : ℕ) where
         let o = off p changed is in
         record {
           lsn = subst (λ (q : ℕ). lsn_of (image_at old.images q) ≤ forced) (sym o.0) lsn;
-          reads = λ h. subst (λ (q : ℕ). g.seen new.device q ≡ image_at old.images q) (sym o.0) o.1;
+          reads = subst (λ (q : ℕ). g.seen new.device q ≡ image_at old.images q) (sym o.0) o.1;
         };
     others = λ p clean. wrote.others p (λ (here : p ≡ n). true≢false (sym was ∙ ap (is_changed old.changed) (sym here) ∙ clean));
     honest = wrote.honest;
@@ -67,10 +67,10 @@ module _ {P : Type 0} (g : Ghosts P) (forced : ℕ) (old mid new : Pooled P) (a 
     | inl still ↦
         let s = a.changed p still in
         let w = b.written p still is in
-        record { lsn = subst (λ (i : List ℕ). lsn_of i ≤ forced) s.same w.lsn; reads = λ h. w.reads h ∙ s.same }
+        record { lsn = subst (λ (i : List ℕ). lsn_of i ≤ forced) s.same w.lsn; reads = w.reads ∙ s.same }
     | inr gone ↦
         let w = a.written p was gone in
-        record { lsn = w.lsn; reads = λ h. b.others p gone ∙ w.reads (b.honest h) }
+        record { lsn = w.lsn; reads = b.others p gone ∙ w.reads }
   ]
 
   others_of : (p : ℕ) → is_changed old.changed p ≡ false → g.seen new.device p ≡ g.seen old.device p

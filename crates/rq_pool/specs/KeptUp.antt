@@ -22,10 +22,10 @@ module _ {P : Type 0} (g : Ghosts P) (forced : ℕ) where
     pub was : is_changed old.changed p ≡ true
     pub same : image_at new.images p ≡ image_at old.images p
 
-  -- the last record of a page is forced, and where the device is honest it reads as the page's image
+  -- the last record of a page is forced, and the device reads the page as its image
   pub record IsWrittenOut (old new : Pooled P) (p : ℕ) : Type 0 where
     pub lsn : lsn_of (image_at old.images p) ≤ forced
-    pub reads : g.honest new.device → g.seen new.device p ≡ image_at old.images p
+    pub reads : g.seen new.device p ≡ image_at old.images p
 
   -- Pages are kept up. Where the device is honest, each has its image. None counts as changed that did not, and one that does so
   -- no more is written out. The device reads each that did not count as changed as before. A crash, now or at any moment of it,

@@ -1,7 +1,7 @@
 //! The pages of the store, all of them in memory, over their device.
 #![tactic(auto)]
 
-ghost use Rattle.std.specs.Prelude.{◌≡◌, ◌≢◌, ◌↔◌, ◌<◌, ◌≤◌, ◌+◌, ◌/◌, ◌%◌, ℕ, true, false, IsSome, IsTrue, IfSome, IfNone, IfErr, IfOk, OnOk, length, replicate, slice_set};
+ghost use Rattle.std.specs.Prelude.{◌≡◌, ◌≢◌, ◌↔◌, ◌<◌, ◌≤◌, ◌+◌, ◌/◌, ◌%◌, ℕ, true, false, Err, IsSome, IsTrue, IfSome, IfNone, IfErr, IfOk, OnOk, length, replicate, slice_set};
 ghost use Rattle.std.specs.Bool.{OnFalse};
 ghost use Rattle.rq_page.specs.Sizes.{IsCellAddress, page_count, sender_count, client_count, client_slot_at, directory_at, place_of};
 ghost use Rattle.rq_page.specs.Pages.{IsWritten, lsn_of};
@@ -9,6 +9,7 @@ ghost use Rattle.rq_page.specs.Slots.{Client, Free, Sender, held_in, IsSlotOf, I
 ghost use Rattle.rq_views.specs.Log.{cell_in, put};
 ghost use Rattle.rq_views.specs.Stored.{IsStoreSlot, slot_at, slots_in, is_used, count_used};
 ghost use Rattle.rq_disk.specs.Device.{FailureIsCounted, Only};
+ghost use Rattle.rq_disk.specs.Device.PageAsk.{Writes};
 ghost use Rattle.rq_level.specs.Meaning.{AppliesOnce, redo_of};
 ghost use Rattle.rq_pool.specs.Pooled.{IsPool, image_at, is_changed};
 ghost use Rattle.rq_pool.specs.Indexed.{TellsClosed};
@@ -266,6 +267,8 @@ impl<P: PageDevice> Pages<P> {
             (image_at self.old.images page) self.old.device self.new.device result }
         ensures frames { self.new.frames ≡ self.old.frames }
         ensures apart { self.new.apart ≡ self.old.apart }
+        ensures excused { result ≡ Err Refusal.DiskWrite
+            → P.excuse (Writes page (image_at self.old.images page)) self.old.device self.new.device }
     {
         let Some(frame) = self.frames.get(page as usize) else {
             return Ok(Written::Nothing);
