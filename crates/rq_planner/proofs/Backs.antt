@@ -24,8 +24,8 @@ use Rattle.rq_level.specs.declared.slots.Given.{Given}
 use Rattle.rq_level.specs.declared.writes.Plan.{Plan}
 use Rattle.rq_level.specs.Given.{GivenHolds}
 use Rattle.rq_level.specs.LevelState.{LevelState, NoneFree, flag_at}
+use Rattle.rq_level.specs.Writes.{AreSlotWrites}
 use Rattle.rq_level.specs.Meaning.{chain_meaning, kept_at, meaning_of, tag_meaning}
-use Rattle.rq_level.specs.Ops.{Job}
 use Rattle.rq_level.specs.TagPlans.{tag_wants}
 use Rattle.rq_txn.specs.Rows.{Row}
 use Rattle.rq_store.specs.Plans.{Stands_at}
@@ -39,7 +39,8 @@ use Rattle.rq_sound.specs.Inverses.{InverseIsLatched, InverseTakesLowest}
 use Rattle.rq_sound.proofs.Wants.{given_parts, given_named}
 use Rattle.rq_planner.specs.Asked.{HasPlace, known}
 use Rattle.rq_planner.specs.Asked.Asked.{Undo}
-use Rattle.rq_planner.specs.Answered.{ComesFrom, IsAnswered, IsAnsweredBack, IsHeldUp, IsPlanBack, KnowsCells, MayUndo, Wants, wants_of}
+use Rattle.rq_planner.specs.Answered.{IsAnswered, IsAnsweredBack, IsHeldUp, IsPlanBack, KnowsCells, MayUndo, wants_of}
+use Rattle.rq_planner.proofs.Gathered.{given_to}
 use Rattle.rq_planner.proofs.Knowing.{cells_known}
 use Rattle.rq_planner.proofs.Replies.{HasGatheredFor, from_wanted, of_undo, wants_undo}
 use Rattle.rq_planner.proofs.Tags.{planned_below, tags_know, unmark_judged}
@@ -117,15 +118,6 @@ not_full s k a keeps cell free none =
     let i = places_are_cells s.sizes a cell in
     let known : flag_at k.free (place_of s.sizes a) ≡ true = keeps.free (place_of s.sizes a) i.0 ∙ ap (λ n. not (is_used (slots_now s n))) i.1 ∙ ap (λ x. not (is_used x)) free in
     false≢true (sym (none (place_of s.sizes a) i.0) ∙ known)
-
--- ---- what is answered by a level of any number
-
--- a plan is the level's, from slots that it was given
-pub back_plan : (s : State) (want : Wants) (job : Job) (May : List Given → Result Plan Refusal → Type 0) (p : Plan) → IsAnswered s want job May (Ok p) → (given : List Given) × May given (Ok p)
-back_plan s want job May p h = (h.given, by (want job h.given) h.comes) where
-  by : (o : Option ℕ) → ComesFrom s o (May h.given) (Ok p) → May h.given (Ok p)
-  by None c = elim c [ inl may ↦ may | inr e ↦ absurd (let no : ◌≡◌ {A = Result Plan Refusal} (Ok p) (Err why.NoMemory) = e in cc) ]
-  by (Some a) c = absurd c
 
 -- ---- what the level of chains answers
 
@@ -214,7 +206,7 @@ module _ (z : Sizes) (images : List (List ℕ)) (rows : List Row) (levels : List
     outside : (level : ℕ) (deed : List ℕ) → MayBack 1 level deed → (d : Deed) → deed_by level deed ≡ Some d → (HasPlace z d → ⊥) → IsJudgedBack z (slots_now s) d answer
     unfolding meaning_of
     outside level deed h d told out = unplanned d (λ p is.
-        let m = back_plan s job_wanted (job_back (OpEnd t j level deed)) (MayUndo s chain_meaning (kept_at levels 1) (OpEnd t j level deed)) p (subst (IsAnswered s job_wanted (job_back (OpEnd t j level deed)) (MayUndo s chain_meaning (kept_at levels 1) (OpEnd t j level deed))) is h) in
+        let m = given_to s job_wanted (job_back (OpEnd t j level deed)) (MayUndo s chain_meaning (kept_at levels 1) (OpEnd t j level deed)) p (subst (IsAnswered s job_wanted (job_back (OpEnd t j level deed)) (MayUndo s chain_meaning (kept_at levels 1) (OpEnd t j level deed))) is h) in
         out (plan_below s (kept_at levels 1) m.0 m.1.latched m.1.after d p (of_undo s (kept_at levels 1) keeps t j d deed level m.0 (Ok p) told m.1))) out
 
     of_chain : (level : ℕ) (deed : List ℕ) (d : Deed) → deed_level d ≡ 1 → deed_by level deed ≡ Some d → (HasPlace z d → IsDeedOf z d) → (HasPlace z d ⊎ (HasPlace z d → ⊥)) → MayBack level level deed → IsJudgedBack z (slots_now s) d answer
@@ -229,7 +221,7 @@ module _ (z : Sizes) (images : List (List ℕ)) (rows : List Row) (levels : List
       | inl inside ↦ unmark_judged s (kept_at levels 2) (tags_know z images levels knows) t j level deed c tag previous told answer inside h
       | inr out ↦ unplanned (Mark c tag previous) (λ p is.
           let k = kept_at levels 2 in
-          let m = back_plan s (tag_wants k.sizes) (job_back (OpEnd t j level deed)) (MayUndo s tag_meaning k (OpEnd t j level deed)) p (subst (IsAnswered s (tag_wants k.sizes) (job_back (OpEnd t j level deed)) (MayUndo s tag_meaning k (OpEnd t j level deed))) is h) in
+          let m = given_to s (tag_wants k.sizes) (job_back (OpEnd t j level deed)) (MayUndo s tag_meaning k (OpEnd t j level deed)) p (subst (IsAnswered s (tag_wants k.sizes) (job_back (OpEnd t j level deed)) (MayUndo s tag_meaning k (OpEnd t j level deed))) is h) in
           out (planned_below s k (tags_know z images levels knows) t j level deed c tag previous told m.0 p m.1)) out
     ]
 
@@ -259,13 +251,13 @@ never_latched z q (Close g) c h = false≢true h
 never_latched z q (Mark e tag previous) c h = true≢false (sym h ∙ nobody (client_slot_at z e ∷ []))
 
 module _ (z : Sizes) (images : List (List ℕ)) (rows : List Row) (none : rows ≡ []) where
-  pub taken_back : (told : Option Deed) (d : Deed) (p : Plan) → told ≡ Some d → IsPlanBack (known z images rows) d p → CanBeTakenBack z (slots_in z images) d → IsTakingBack z (slots_in z images) told p.writes.items
-  taken_back told d p reads back can = record {
+  pub taken_back : (told : Option Deed) (d : Deed) (p : Plan) → told ≡ Some d → IsPlanBack (known z images rows) d p → AreSlotWrites z p.writes.items → CanBeTakenBack z (slots_in z images) d → IsTakingBack z (slots_in z images) told p.writes.items
+  taken_back told d p reads back slots can = record {
     deed = d;
     reads = reads;
     can = can;
     planned = back.follows.0;
-    slots = back.slots;
+    slots = slots;
     lowest = subst (λ (rs : List Row). InverseTakesLowest z (slots_in z images) rs d p.writes.items) none back.lowest;
   }
 

@@ -1,5 +1,5 @@
 -- The slots that a level wants are gathered, and come to an end.
-use Rattle.std.proofs.Common.{◌≡◌, ℕ, ◌-◌, ◌/◌, ◌%◌, ◌<◌, ◌++◌, List, [], ◌∷◌, false, length, Option, Some, None, Result, Err, refl, sym, ◌∙◌, ap, subst, inl, inr, arith}
+use Rattle.std.proofs.Common.{◌≡◌, ℕ, ◌-◌, ◌/◌, ◌%◌, ◌<◌, ◌++◌, List, [], ◌∷◌, false, length, Option, Some, None, Result, Ok, Err, refl, sym, ◌∙◌, ap, subst, inl, inr, arith}
 use Rattle.std.proofs.lemmas.List.{append_assoc, append-nil, length-append}
 use Rattle.rq_model.specs.declared.refusal.Refusal.{Refusal}
 use Rattle.rq_model.specs.declared.refusal.Refusal.TheVariants as why
@@ -68,6 +68,13 @@ module _ (s : State) (want : Wants) (job : Job) (May : List Given → Result Pla
   -- all that it wants is given to it
   pub answered : (given : List Given) (answer : Result Plan Refusal) → HasGathered s want job given → want job given ≡ None → May given answer → IsAnswered s want job May answer
   answered given answer h next may = record { given = given; has = h; comes = subst (λ o. ComesFrom s o (May given) answer) (sym next) (inl may) }
+
+  -- a plan is the level's, from slots that it was given
+  pub given_to : (p : Plan) → IsAnswered s want job May (Ok p) → (given : List Given) × May given (Ok p)
+  given_to p h = (h.given, by (want job h.given) h.comes) where
+    by : (o : Option ℕ) → ComesFrom s o (May h.given) (Ok p) → May h.given (Ok p)
+    by None c = elim c [ inl may ↦ may | inr e ↦ absurd (let no : ◌≡◌ {A = Result Plan Refusal} (Ok p) (Err why.NoMemory) = e in cc) ]
+    by (Some a) c = absurd c
 
 -- what was not answered from any slots
 pub not_from : (s : State) (want : Wants) (job : Job) (May : List Given → Result Plan Refusal → Type 0) (r : Refusal) → IsAnswered s want job (λ given answer. ⊥) (Err r) → IsAnswered s want job May (Err r)

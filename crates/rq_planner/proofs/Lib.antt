@@ -3,6 +3,7 @@ pub mod Handing
 mod Gathered
 pub mod Replies
 mod Backs
+mod Lawful
 pub mod Knowing
 pub mod Options
 pub mod Asking

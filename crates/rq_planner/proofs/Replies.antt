@@ -1,5 +1,5 @@
 -- What is answered to what is asked of the level of chains: its answer, over what was gathered for it.
-use Rattle.std.proofs.Common.{◌≡◌, ⊎_elim, ℕ, ◌+◌, ◌/◌, ◌<◌, ◌≤◌, ◌++◌, not, List, [], ◌∷◌, reverse, Bool, true, false, Option, Some, None, Result, Ok, Err, refl, sym, ◌∙◌, ap, subst, inl, inr, arith}
+use Rattle.std.proofs.Common.{◌≡◌, ⊎_elim, ℕ, ◌/◌, ◌<◌, ◌≤◌, ◌++◌, not, List, [], ◌∷◌, reverse, Bool, true, false, Option, Some, None, Result, Ok, Err, refl, sym, ◌∙◌, ap, subst, inl, inr, arith}
 use Rattle.std.proofs.lemmas.Bool.{and_from, cases_Bool, cases_eq, cases_lt, or_from, true≢false}
 use Rattle.std.proofs.Math.Bool.{or-false}
 use Rattle.std.proofs.lemmas.List.{reverse-append, reverse-reverse}
@@ -16,9 +16,10 @@ use Rattle.rq_page.specs.Sizes.{Sizes, cell_at, directory_at, place_of, sender_c
 use Rattle.rq_page.specs.Slots.Slot.{Used}
 use Rattle.rq_page.proofs.Addresses.{cells_rise, places_are_cells}
 use Rattle.rq_views.specs.InStore.{IsDeedOf}
+use Rattle.rq_views.specs.Items.{told_deed}
 use Rattle.rq_views.specs.Log.{Slots, Write}
 use Rattle.rq_views.specs.Plans.{relinked}
-use Rattle.rq_views.specs.Plans.Turn.{Undid}
+use Rattle.rq_views.specs.Plans.Turn.{Did, Undid}
 use Rattle.rq_views.specs.Stored.{is_used}
 use Rattle.rq_level.specs.Asked.{job_back}
 use Rattle.rq_level.specs.ChainPlans.{Plans, PlansFor, Undoes, job_wanted}
@@ -36,7 +37,7 @@ use Rattle.rq_store.specs.State.{State}
 use Rattle.rq_sound.specs.Gathering.{AreGivenFrom, IsToDo, IsWantedOf}
 use Rattle.rq_sound.specs.Groups.{slots_now}
 use Rattle.rq_sound.specs.Latching.{any_latched, needed}
-use Rattle.rq_sound.specs.Levels.{AreLatched, IsGathered, KeepsCells}
+use Rattle.rq_sound.specs.Levels.{AreLatched, IsGathered, IsUnlatchedPlan, KeepsCells}
 use Rattle.rq_sound.specs.Rows.{own_slot}
 use Rattle.rq_sound.specs.Sound.{IsSound}
 use Rattle.rq_sound.specs.Wants.{AreGivenOf, CanUndo}
@@ -44,10 +45,10 @@ use Rattle.rq_sound.proofs.Gathering.{wants_needed}
 use Rattle.rq_sound.proofs.Levels.{levels_plan, levels_refuse, writes_latched}
 use Rattle.rq_sound.proofs.Wants.{levels_find}
 use Rattle.rq_sound.specs.Lowest.{AreAllLatched, AreLatchedBelow, FirstIsLowest}
-use Rattle.rq_planner.specs.Asked.{Asked, doing_sender, known, slots_for}
+use Rattle.rq_planner.specs.Asked.{Asked, Task, doing_sender, known, slots_for, task_level}
 use Rattle.rq_planner.specs.Asked.Asked.{Do, Undo}
 use Rattle.rq_planner.specs.Asked.Task.{Chain, Tag}
-use Rattle.rq_planner.specs.Answered.{ComesFrom, IsAnswered, IsHeldUp, IsNewestDeed, IsPlanBack, IsPlanFor, IsPlanned, IsPlanOf, MayBeAsked, MayPlan, MayUndo, Wants}
+use Rattle.rq_planner.specs.Answered.{ComesFrom, IsAnswered, IsDeedFor, IsHeldUp, IsNewestDeed, IsPlanBack, IsPlanFor, IsPlanned, IsPlanOf, MayBeAsked, MayPlan, MayUndo, SendTakesLowest, Wants, deed_of}
 
 -- the first write of a plan is of the cell that it takes
 takes_lowest : (z : Sizes) (q : Slots) (rows : List Row) (a : ℕ) (ws : List SlotWrite) → IsFirstAt a ws → AreLatchedBelow z q rows a → latched_in rows (a / 16) ≡ false → FirstIsLowest z q rows ws
@@ -144,39 +145,23 @@ first_new z us beside (Some c) f first new e = first_at z us (first ∷ record {
 
 -- ---- plans
 
+-- a plan whose bytes tell this deed
+pub planned_as : (s : State) (task : Task) (p : Plan) (d : Deed) → deed_by (task_level task) p.deed ≡ Some d → IsDeedFor task d → IsUnlatchedPlan s p (Did d) → SendTakesLowest s.sizes (slots_now s) s.rows task p.writes.items → IsPlanOf s task p
+planned_as s task p d reads asked follows lowest =
+    let is : d ≡ deed_of task p = sym (ap told_deed reads) in
+    record {
+      asked = subst (IsDeedFor task) is asked;
+      follows = subst (λ (e : Deed). IsUnlatchedPlan s p (Did e)) is follows;
+      lowest = lowest;
+    }
+
 module _ (s : State) (k : LevelState) (given : List Given) (latched : List ℕ) (keeps : KeepsCells s k) (on : AreLatched s latched) where
   do_plan : (d : Doing) (p : Plan) (after : LevelState) → HasGatheredFor s given (Do (Chain d)) → Plans (Some s.sizes) (Some d) k given latched (Ok p) after → IsPlanOf s (Chain d) p
-  do_plan (Send g tag body) p after h m = record {
-    deed = Append g (m.can.directory.sent + 1) tag m.can.directory.last_tag body;
-    asked = (refl, refl, refl);
-    told = m.deed;
-    reads = m.reads;
-    reply = m.reply;
-    follows = levels_plan.sent s k given latched g tag body p after h.gathered keeps on m;
-    slots = m.slots;
-    lowest = takes_lowest s.sizes (slots_now s) s.rows m.new p.writes.items
-        (first_new s.sizes p.writes.items m.can.directory.tail m.can.old _ _ _ m.writes) (below s k latched keeps on m.new m.lowest) (unlatched s k latched keeps on m.new m.lowest);
-  }
-  do_plan (Receive g) p after h m = record {
-    deed = UnlinkHead g (m.can.directory.received + 1) m.can.cell.tag m.can.cell.body;
-    asked = refl;
-    told = m.deed;
-    reads = m.reads;
-    reply = m.reply;
-    follows = levels_plan.received s k given g p after h.gathered m;
-    slots = m.slots;
-    lowest = tt;
-  }
-  do_plan (Close g) p after h m = record {
-    deed = Close_deed g;
-    asked = refl;
-    told = m.deed;
-    reads = m.reads;
-    reply = m.reply;
-    follows = levels_plan.closed s k given g p after h.gathered m;
-    slots = m.marked.slots;
-    lowest = tt;
-  }
+  do_plan (Send g tag body) p after h m = planned_as s (Chain (Send g tag body)) p _ m.reads (refl, refl, refl) (levels_plan.sent s k given latched g tag body p after h.gathered keeps on m)
+      (takes_lowest s.sizes (slots_now s) s.rows m.new p.writes.items
+      (first_new s.sizes p.writes.items m.can.directory.tail m.can.old _ _ _ m.writes) (below s k latched keeps on m.new m.lowest) (unlatched s k latched keeps on m.new m.lowest))
+  do_plan (Receive g) p after h m = planned_as s (Chain (Receive g)) p _ m.reads refl (levels_plan.received s k given g p after h.gathered m) tt
+  do_plan (Close g) p after h m = planned_as s (Chain (Close g)) p _ m.reads refl (levels_plan.closed s k given g p after h.gathered m) tt
 
   do_free : (d : Doing) (p : Plan) (after : LevelState) → HasGatheredFor s given (Do (Chain d)) → Plans (Some s.sizes) (Some d) k given latched (Ok p) after → IsHeldUp s (Do (Chain d)) → ⊥
   do_free (Send g tag body) p after h m held = ⊎_elim (not_latched s given h.gathered (slots_for s.sizes (slots_now s) (Do (Chain (Send g tag body)))) h.all) (not_all s k latched keeps on m.new m.lowest) held
@@ -185,22 +170,16 @@ module _ (s : State) (k : LevelState) (given : List Given) (latched : List ℕ) 
 
   undo_plan : (d : Deed) (p : Plan) (after : LevelState) → HasGatheredFor s given (Undo d) → Undoes (Some s.sizes) (Some d) k given latched (Ok p) after → IsPlanBack s d p
   undo_plan (Append g n tag previous body) p after h m = record {
-    inverse = m.inverse;
     follows = levels_plan.unsent s k given g n tag previous body p after h.gathered m;
-    slots = m.slots;
     lowest = tt;
   }
   undo_plan (UnlinkHead g n tag body) p after h m = record {
-    inverse = m.inverse;
     follows = levels_plan.returned s k given latched g n tag body p after h.gathered keeps on m;
-    slots = m.slots;
     lowest = takes_lowest s.sizes (slots_now s) s.rows m.new p.writes.items
         (first_new s.sizes p.writes.items m.can.directory.head m.can.old _ _ _ m.writes) (below s k latched keeps on m.new m.lowest) (unlatched s k latched keeps on m.new m.lowest);
   }
   undo_plan (Close_deed g) p after h m = record {
-    inverse = m.inverse;
     follows = levels_plan.reopened s k given g p after h.gathered m;
-    slots = m.marked.slots;
     lowest = tt;
   }
   undo_plan (Mark c tag previous) p after h m = absurd m

@@ -33,28 +33,17 @@ use Rattle.rq_planner.specs.Asked.Task.{Tag}
 use Rattle.rq_planner.specs.Answered.{IsAnswered, IsPlanBack, IsPlanned, IsPlanOf, KnowsCells, MayBeAsked, MayPlan, MayUndo, Wants}
 use Rattle.rq_planner.specs.Backs.{IsJudgedBack, MarkedLast}
 use Rattle.rq_planner.proofs.Knowing.{is_one}
-use Rattle.rq_planner.proofs.Replies.{HasGatheredFor, WantsFor, damaged_answer, from_wanted, latched_answer, memory_answer, not_latched, planned_answer, same_given}
+use Rattle.rq_planner.proofs.Replies.{HasGatheredFor, WantsFor, damaged_answer, from_wanted, latched_answer, memory_answer, not_latched, planned_answer, planned_as, same_given}
 
 -- ---- its answers
 
 module _ (s : State) (k : LevelState) (given : List Given) (after : LevelState) where
   mark_plan : (t : Tagging) (p : Plan) → HasGatheredFor s given (Do (Tag t)) → IsTagPlan s.sizes k given t.client t.tag p after → IsPlanOf s (Tag t) p
-  mark_plan t p h m = record {
-    deed = Mark t.client t.tag m.can.held.tag;
-    asked = (refl, refl);
-    told = m.deed;
-    reads = m.reads;
-    reply = m.reply;
-    follows = levels_plan.tagged s k given t.client t.tag p after h.gathered m;
-    slots = m.slots;
-    lowest = tt;
-  }
+  mark_plan t p h m = planned_as s (Tag t) p _ m.reads (refl, refl) (levels_plan.tagged s k given t.client t.tag p after h.gathered m) tt
 
   unmark_plan : (c tag previous : ℕ) (p : Plan) → HasGatheredFor s given (Undo (Mark c tag previous)) → IsUntagPlan s.sizes k given c tag previous p after → IsPlanBack s (Mark c tag previous) p
   unmark_plan c tag previous p h m = record {
-    inverse = m.inverse;
     follows = levels_plan.untagged s k given c tag previous p after h.gathered m;
-    slots = m.slots;
     lowest = tt;
   }
 

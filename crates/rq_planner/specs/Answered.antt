@@ -4,26 +4,23 @@ use Rattle.rq_model.specs.declared.record.Deed.{Deed}
 use Rattle.rq_model.specs.declared.record.Deed.TheVariants.{Append, UnlinkHead, Close as Close_deed, Mark}
 use Rattle.rq_model.specs.declared.refusal.Refusal.{Refusal}
 use Rattle.rq_model.specs.declared.refusal.Refusal.TheVariants as why
-use Rattle.rq_model.specs.Deeds.{deed_by, spelled_deed}
+use Rattle.rq_model.specs.Deeds.{deed_by}
 use Rattle.rq_model.specs.declared.record.Record.{Record}
 use Rattle.rq_page.specs.Sizes.{Sizes, cell_count}
-use Rattle.rq_views.specs.Items.{items}
+use Rattle.rq_views.specs.Items.{items, told_deed}
 use Rattle.rq_views.specs.Legal.{view}
 use Rattle.rq_views.specs.Log.{Slots}
 use Rattle.rq_views.specs.Plans.Turn.{Did, Undid}
 use Rattle.rq_views.specs.Stored.{IsStoreSlot, slot_at}
 use Rattle.rq_level.specs.Asked.{AreWanted, job_back}
-use Rattle.rq_level.specs.ChainPlans.{IsInverse, TellsDamage}
+use Rattle.rq_level.specs.ChainPlans.{TellsDamage}
 use Rattle.rq_level.specs.declared.slots.Given.{Given}
 use Rattle.rq_level.specs.declared.writes.Plan.{Plan}
-use Rattle.rq_level.specs.declared.writes.Replies.TheVariants as replies
 use Rattle.rq_level.specs.declared.writes.SlotWrite.{SlotWrite}
 use Rattle.rq_level.specs.LevelState.{LevelState, is_free_slot}
 use Rattle.rq_level.specs.Meaning.{AreTold, Meaning, kept_at, level_count, meaning_of}
 use Rattle.rq_level.specs.Ops.{Job}
 use Rattle.rq_level.specs.Ops.Doing.{Send, Receive, Close}
-use Rattle.rq_level.specs.Gists.{gist_of}
-use Rattle.rq_level.specs.Writes.{AreSlotWrites}
 use Rattle.rq_txn.specs.declared.Finished.{Finished}
 use Rattle.rq_txn.specs.Rows.{Row, latched_in}
 use Rattle.rq_groups.specs.Waiting.{waits}
@@ -125,23 +122,19 @@ SendTakesLowest z q rows (Chain (Receive g)) ws = Unit {0}
 SendTakesLowest z q rows (Chain (Close g)) ws = Unit {0}
 SendTakesLowest z q rows (Tag t) ws = Unit {0}
 
--- The plan of what is to be done, over the slots as they are, on pages that nobody has latched: with its deed, which its
--- bytes tell, and which its end replies.
+-- the deed that its plan tells
+abbrev pub deed_of : Task → Plan → Deed
+deed_of task p = told_deed (deed_by (task_level task) p.deed)
+
+-- The plan of what is to be done, over the slots as they are, on pages that nobody has latched.
 pub record IsPlanOf (s : State) (task : Task) (p : Plan) : Type 0 where
-  pub deed : Deed
-  pub asked : IsDeedFor task deed
-  pub told : p.deed ≡ spelled_deed deed
-  pub reads : deed_by (task_level task) p.deed ≡ Some deed
-  pub reply : p.reply ≡ replies.Deed (gist_of deed)
-  pub follows : IsUnlatchedPlan s p (Did deed)
-  pub slots : AreSlotWrites s.sizes p.writes.items
+  pub asked : IsDeedFor task (deed_of task p)
+  pub follows : IsUnlatchedPlan s p (Did (deed_of task p))
   pub lowest : SendTakesLowest s.sizes (slots_now s) s.rows task p.writes.items
 
 -- the plan of what takes back a deed
 pub record IsPlanBack (s : State) (d : Deed) (p : Plan) : Type 0 where
-  pub inverse : IsInverse p
   pub follows : IsUnlatchedPlan s p (Undid d)
-  pub slots : AreSlotWrites s.sizes p.writes.items
   pub lowest : InverseTakesLowest s.sizes (slots_now s) s.rows d p.writes.items
 
 abbrev pub IsPlanFor : State → Asked → Plan → Type 0

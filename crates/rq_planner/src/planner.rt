@@ -13,6 +13,7 @@ ghost use Rattle.rq_planner.specs.Answered.{IsAnswered, IsAnsweredBack, IsPlanne
 ghost use Rattle.rq_planner.specs.Asked.{known_from};
 ghost use Rattle.rq_planner.specs.Backs.{IsJudgedBack, IsRefusedBack, IsTakingBack};
 ghost use Rattle.rq_planner.specs.Handed.{AreForStores};
+ghost use Rattle.rq_planner.specs.Lawful.{IsLawfulInverse, IsLawfulPlan};
 ghost use Rattle.rq_planner.specs.PageUndos.{NotPutBackFor, PutsBackWrite};
 
 use crate::handed::StoreLevels;
@@ -109,6 +110,7 @@ impl<B: Level> Planner<B> {
         ensures answered { IsAnswered (known_from pages.now transactions.now) (wants_of self.old op.now.level) op.now
             (MayPlan (known_from pages.now transactions.now) (meaning_of op.now.level) (kept_at self.old op.now.level) op.now)
             result }
+        ensures lawful { IfOk result (IsLawfulPlan pages.now.sizes op.now.level) }
         ensures planned { IsPlannedBy (known_from pages.now transactions.now) op.now result }
     {
         plan(
@@ -137,6 +139,7 @@ impl<B: Level> Planner<B> {
         requires level { level_back told.now < length self.old }
         ensures same { self.new ≡ self.old }
         ensures answered { IsAnsweredBack (known_from pages.now transactions.now) self.old told.now result }
+        ensures lawful { is_some (deed_back told.now) ≡ true → IfOk result (IsLawfulInverse pages.now.sizes) }
         ensures planned { IsPlannedBy (known_from pages.now transactions.now) (job_back told.now) result }
         ensures judged { (d : Deed) → deed_back told.now ≡ Some d
             → IsJudgedBack pages.now.sizes (slots_in pages.now.sizes pages.now.images) d result }
@@ -208,6 +211,7 @@ impl<B: Level> Planner<B> {
     /// What the end of an operation answers, by its level and the bytes of its deed; none where these are no deed. Takes no
     /// memory.
     #[tactic(auto, using(crate::proofs::Told::none_answers))]
+    #[inline(always)]
     pub fn outcome(&self, level: u8, deed: &DeedBytes) -> Option<Outcome>
         ensures { result ≡ option_map answer_of (deed_by level deed.now) }
     {

@@ -18,7 +18,8 @@ returns-in-Ok-clause-plan g c =
     let d = some_is (deed_back told) (sym c.reads_back.ensures.reads ∙ c.if-not-reads_back.false) in
     let can = (c.in-Ok.ensures.judged d.0 d.1).can in
     taken_back z c.args.pages.now.images c.new-nobody.result c.new-nobody.ensures (deed_back told) d.0 c.in-Ok.plan d.1
-    (c.in-Ok.ensures.planned (Undo d.0) (asks_back told d.0 d.1) (can_below z q d.0 can)).plan can
+    (c.in-Ok.ensures.planned (Undo d.0) (asks_back told d.0 d.1) (can_below z q d.0 can)).plan
+    (c.in-Ok.ensures.lawful (sym c.reads_back.ensures.reads ∙ c.if-not-reads_back.false)).slots can
 
 pub returns-in-Ok-clause-answered : goal.returns-in-Ok-clause-answered
 returns-in-Ok-clause-answered g c = record {
