@@ -5,7 +5,7 @@ use Rattle.rq_pool.specs.Pooled.{Pooled}
 use Rattle.rq_pool.specs.Held.{Held, IsFramed, page_at}
 use Rattle.rq_pool.specs.Frames.{in_order}
 use Rattle.rq_pool.specs.Reading.{OnlyRead}
-use Rattle.rq_pool.specs.Fetching.{Fetches, MayHaveRead}
+use Rattle.rq_pool.specs.Fetching.{AreAllFramed, Fetches, MayHaveRead}
 use Rattle.rq_pool.proofs.KeptUp.{kept_still, kept_then}
 use Rattle.rq_pool.proofs.Readings.{only_read_on}
 
@@ -38,7 +38,7 @@ module _ {P : Type 0} (g : Ghosts P) where
 
   -- none was read
   pub still_read : (old : Pooled P) → MayHaveRead g old old
-  still_read old = record { kept = λ forced. kept_still g forced old old refl refl refl refl; frames = refl; changed = refl; device = read_none old.device }
+  still_read old = record { kept = λ forced. kept_still g forced old old refl refl refl refl; frames = refl; changed = refl; device = read_none old.device; stood = λ all. refl }
 
   -- some were read, and then some
   pub read_then : (old mid new : Pooled P) → MayHaveRead g old mid → MayHaveRead g mid new → MayHaveRead g old new
@@ -47,6 +47,7 @@ module _ {P : Type 0} (g : Ghosts P) where
     frames = b.frames ∙ a.frames;
     changed = b.changed ∙ a.changed;
     device = only_read_on g old.device mid.device new.device a.device b.device;
+    stood = λ all. let same : mid ≡ old = a.stood all in b.stood (subst (λ (s : Pooled P). AreAllFramed s) (sym same) all) ∙ same;
   }
 
   -- a page that stands in a frame is at hand, and nothing happens
@@ -58,4 +59,15 @@ module _ {P : Type 0} (g : Ghosts P) where
     counted = refl;
     read = still_read old;
     others = λ p other. refl;
+  })
+
+  -- what is told of the page then is no matter
+  pub fetched_as : {X Y : Type 0} (n m : ℕ) (x : X) (y : Y) (old new : Pooled P) → n ≡ m → Fetches g n old (Ok x) new → Fetches g m old (Ok y) new
+  fetched_as n m x y old new is f = subst (λ (k : ℕ). Fetches g k old (Ok y) new) is (record {
+    stood = λ at. (refl, (f.stood at).1);
+    hand = f.hand;
+    refused = tt;
+    counted = f.counted;
+    read = f.read;
+    others = f.others;
   })

@@ -14,6 +14,10 @@ use Rattle.rq_pool.specs.KeptUp.{IsKeptUp}
 abbrev pub IsAtHand : {P : Type 0} → Pooled P → ℕ → Type 0
 IsAtHand pages page = IsFramed pages.frames page ⊎ (pages.apart ≡ Some page)
 
+-- each page stands in a frame
+abbrev pub AreAllFramed : {P : Type 0} → Pooled P → Type 0
+AreAllFramed pages = (p : ℕ) → p < page_count pages.sizes → IsFramed pages.frames p
+
 -- a page stands in no frame
 pub record HasOutside {P : Type 0} (pages : Pooled P) : Type 0 where
   pub page : ℕ
@@ -30,6 +34,8 @@ pub record MayHaveRead {P : Type 0} (g : Ghosts P) (old new : Pooled P) : Type 0
   pub changed : new.changed ≡ old.changed
   -- the device was only read
   pub device : OnlyRead g old.device new.device
+  -- nothing happened where each page stands in a frame
+  pub stood : AreAllFramed old → new ≡ old
 
 -- why a page was not read: its device failed, or is not honest and gave no page of a store
 abbrev pub NotFetched : {P : Type 0} → Ghosts P → ℕ → Refusal → P → P → Type 0

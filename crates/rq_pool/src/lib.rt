@@ -153,8 +153,7 @@ impl<P: PageDevice + Drop> Pages<P> {
 impl<P: PageDevice> Pages<P> {
     ghost use Rattle.rq_pool.specs.Writing.{AnswersWhen, DeviceAfter, HasChangeBeyond, IsRedoAt, IsUnwritten, MayHaveSynced, NoChangeBeyond, changed_after};
     ghost use Rattle.rq_pool.specs.Pooled.{AreOver};
-    ghost use Rattle.rq_pool.specs.Held.{IsFramed};
-    ghost use Rattle.rq_pool.specs.Fetching.{Fetches};
+    ghost use Rattle.rq_pool.specs.Fetching.{AreAllFramed, Fetches};
 
     /// What is so of the pages of each store, for proofs: it runs no code. Where the device has been honest, each page
     /// that doesn't count as changed reads there as its image.
@@ -166,7 +165,7 @@ impl<P: PageDevice> Pages<P> {
 
     /// Each page stands in a frame, so no read fails, for proofs: it runs no code.
     pub fn shows_framed(&self)
-        ensures { (p : ℕ) → p < page_count self.now.sizes → IsFramed self.now.frames p }
+        ensures { AreAllFramed self.now }
     {
         let _layout = self.layout;
     }

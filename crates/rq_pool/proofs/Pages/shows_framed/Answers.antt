@@ -1,8 +1,7 @@
-use Rattle.std.proofs.Common.{◌<◌, ℕ, length, refl, subst, arith}
+use Rattle.std.proofs.Common.{length, refl, subst, arith}
 use Rattle.std.proofs.lemmas.List.{length-map}
-use Rattle.rq_page.specs.Sizes.{page_count}
 use Rattle.rq_pool.specs.Frames.{image_of}
-use Rattle.rq_pool.specs.Held.{IsFramed}
+use Rattle.rq_pool.specs.Fetching.{AreAllFramed}
 use Rattle.rq_pool.specs.Pooled.{Pooled}
 use Rattle.rq_pool.proofs.Fetched.{stands}
 use Rattle.rq_pool.proofs.Pages.shows_framed.Goals as goal
@@ -12,4 +11,4 @@ returns g c =
     let frames = c.self.inside.frames.items in
     let count = c.self.invariant.0.pool.count in
     let long = length-map frames image_of in
-    subst (λ (v : Pooled _). (p : ℕ) → p < page_count v.sizes → IsFramed v.frames p) c.self.view_is (λ p lt. stands _ (length frames) p refl (omega (arith, count, long, lt)))
+    subst (λ (v : Pooled _). AreAllFramed v) c.self.view_is (λ p lt. stands _ (length frames) p refl (omega (arith, count, long, lt)))
