@@ -7,11 +7,21 @@ use Rattle.rq_disk.specs.declared.device.PageDevice.{Ghosts}
 use Rattle.rq_page.specs.Pages.{lsn_of}
 use Rattle.rq_model.specs.declared.refusal.Refusal.{Refusal}
 use Rattle.rq_model.specs.declared.refusal.Refusal.TheVariants as why
+use Rattle.rq_page.specs.Sizes.{Sizes}
+use Rattle.rq_views.specs.Stored.{slots_in}
+use Rattle.rq_pool.specs.Indexed.{AreFlaggedAlike, closed_flag, free_flag}
 use Rattle.rq_pool.specs.Pooled.{Pooled, image_at, is_changed}
 use Rattle.rq_pool.specs.Writing.{AnswersWhen, DeviceAfter, MayHaveWritten, changed_after}
 use Rattle.rq_pool.specs.declared.Written.{Written}
 use Rattle.rq_pool.specs.declared.Written.TheVariants.{Done, Nothing}
 use Rattle.rq_pool.specs.KeptUp.{IsForced, IsKeptUp, IsWrittenOut, MayBeKept}
+
+-- slots of the same images
+pub flagged_alike : (z : Sizes) (old new : List (List ℕ)) → new ≡ old → AreFlaggedAlike z old new
+flagged_alike z old new same a = (
+  ap (λ (l : List (List ℕ)). free_flag (slots_in z l a)) same,
+  ap (λ (l : List (List ℕ)). closed_flag (slots_in z l a)) same,
+)
 
 module _ {P : Type 0} (g : Ghosts P) (forced : ℕ) where
   -- nothing happened to the device
@@ -19,6 +29,7 @@ module _ {P : Type 0} (g : Ghosts P) (forced : ℕ) where
   kept_still old new device sizes images changed = record {
     sizes = sizes;
     images = λ h. images;
+    flags = flagged_alike old.sizes old.images new.images images;
     changed = λ p c. record { was = ap (λ (l : List Bool). is_changed l p) (sym changed) ∙ c; same = ap (λ (l : List (List ℕ)). image_at l p) images };
     written = λ p was is. absurd (true≢false (sym was ∙ ap (λ (l : List Bool). is_changed l p) (sym changed) ∙ is));
     others = λ p clean. ap (λ (d : P). g.seen d p) device;
@@ -35,6 +46,7 @@ module _ {P : Type 0} (g : Ghosts P) (forced : ℕ) where
   kept_written old new n wrote was lsn sizes images fewer off = record {
     sizes = sizes;
     images = λ h. images;
+    flags = flagged_alike old.sizes old.images new.images images;
     changed = λ p c. record { was = fewer p c; same = ap (λ (l : List (List ℕ)). image_at l p) images };
     written = λ p changed is.
         let o = off p changed is in
@@ -83,6 +95,10 @@ module _ {P : Type 0} (g : Ghosts P) (forced : ℕ) (old mid new : Pooled P) (a 
   kept_then = record {
     sizes = b.sizes ∙ a.sizes;
     images = λ h. b.images h ∙ a.images (b.honest h);
+    flags = λ at.
+        let before = a.flags at in
+        let then_on = subst (λ (z : Sizes). AreFlaggedAlike z mid.images new.images) a.sizes b.flags at in
+        (then_on.0 ∙ before.0, then_on.1 ∙ before.1);
     changed = λ p c.
         let s = b.changed p c in
         let r = a.changed p s.was in

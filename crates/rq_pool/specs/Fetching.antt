@@ -1,8 +1,10 @@
 -- What reading a page of a store again may do.
-use Rattle.std.specs.Prelude.{◌≡◌, ◌≢◌, ◌⊎◌, ℕ, ◌+◌, ◌%◌, ◌^◌, ◌<◌, Option, Some, Result, IsOk, IfErr, OnOk}
+use Rattle.std.specs.Prelude.{◌≡◌, ◌≢◌, ◌⊎◌, ℕ, ◌+◌, ◌%◌, ◌^◌, ◌<◌, ◌≤◌, Some, Result, IsOk, IfErr, OnOk}
 use Rattle.rq_model.specs.declared.refusal.Refusal.{Refusal}
 use Rattle.rq_model.specs.declared.refusal.Refusal.TheVariants as why
 use Rattle.rq_model.specs.declared.refusal.Damage.TheVariants as damage
+use Rattle.rq_disk.specs.Device.{PageAsk}
+use Rattle.rq_disk.specs.Device.PageAsk.{Reads}
 use Rattle.rq_disk.specs.declared.device.PageDevice.{Ghosts}
 use Rattle.rq_page.specs.Sizes.{page_count}
 use Rattle.rq_pool.specs.Pooled.{Pooled, image_at}
@@ -14,13 +16,14 @@ use Rattle.rq_pool.specs.KeptUp.{IsKeptUp}
 abbrev pub IsAtHand : {P : Type 0} → Pooled P → ℕ → Type 0
 IsAtHand pages page = IsFramed pages.frames page ⊎ (pages.apart ≡ Some page)
 
--- each page stands in a frame
+-- each page behind the superblock stands in a frame
 abbrev pub AreAllFramed : {P : Type 0} → Pooled P → Type 0
-AreAllFramed pages = (p : ℕ) → p < page_count pages.sizes → IsFramed pages.frames p
+AreAllFramed pages = (p : ℕ) → 1 ≤ p → p < page_count pages.sizes → IsFramed pages.frames p
 
--- a page stands in no frame
+-- a page behind the superblock stands in no frame
 pub record HasOutside {P : Type 0} (pages : Pooled P) : Type 0 where
   pub page : ℕ
+  pub behind : 1 ≤ page
   pub within : page < page_count pages.sizes
   pub outside : IsFramed pages.frames page → ⊥
 
@@ -37,9 +40,17 @@ pub record MayHaveRead {P : Type 0} (g : Ghosts P) (old new : Pooled P) : Type 0
   -- nothing happened where each page stands in a frame
   pub stood : AreAllFramed old → new ≡ old
 
--- why a page was not read: its device failed, or is not honest and gave no page of a store
+-- The device failed once: in a call that was asked this.
+pub record HasFailed {P : Type 0} (g : Ghosts P) (ask : PageAsk) (old new : P) : Type 0 where
+  pub once : g.faults new ≡ (g.faults old + 1) % 2 ^ 64
+  -- the device as that call found it
+  pub before : P
+  pub none : g.faults before ≡ g.faults old
+  pub excused : g.excuse ask before new
+
+-- why a page was not read: its device failed in that, or is not honest
 abbrev pub NotFetched : {P : Type 0} → Ghosts P → ℕ → Refusal → P → P → Type 0
-NotFetched g page why.DiskRead old new = g.faults new ≡ (g.faults old + 1) % 2 ^ 64
+NotFetched g page why.DiskRead old new = HasFailed g (Reads page) old new
 NotFetched g page (why.Damaged (damage.Page n)) old new = (n ≡ page) × (g.honest new → ⊥) × (g.faults new ≡ g.faults old)
 NotFetched g page _ old new = ⊥
 

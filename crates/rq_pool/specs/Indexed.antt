@@ -3,7 +3,7 @@ use Rattle.std.specs.Prelude.{◌≡◌, ℕ, ◌*◌, ◌<◌, ◌≤◌, Bool,
 use Rattle.rq_bitset.specs.Flags.{flag_at}
 use Rattle.rq_page.specs.Sizes.{Sizes, cell_count, cell_at, directory_at, sender_count}
 use Rattle.rq_page.specs.Slots.{Slot}
-use Rattle.rq_page.specs.Slots.Slot.{Free, Used, Sender, Client}
+use Rattle.rq_page.specs.Slots.Slot.{Sender}
 use Rattle.rq_page.specs.declared.directory.Directory.{Directory}
 use Rattle.rq_views.specs.Stored.{slots_in, is_used}
 
@@ -27,6 +27,11 @@ free_cells z = record { count = cell_count z; at = cell_at z; flag = free_flag }
 
 abbrev pub closed_groups : Sizes → Indexed
 closed_groups z = record { count = sender_count z; at = directory_at; flag = closed_flag }
+
+-- each slot is a free cell, and a closed group's, as it was
+abbrev pub AreFlaggedAlike : Sizes → (old new : List (List ℕ)) → Type 0
+AreFlaggedAlike z old new = (a : ℕ) → (free_flag (slots_in z new a) ≡ free_flag (slots_in z old a))
+    × (closed_flag (slots_in z new a) ≡ closed_flag (slots_in z old a))
 
 -- the flag at a place is that of what stands there
 abbrev pub IsNoted : Indexed → Sizes → List (List ℕ) → List ℕ → ℕ → Type 0

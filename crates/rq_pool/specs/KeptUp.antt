@@ -4,6 +4,7 @@ use Rattle.std.specs.Prelude.{◌≡◌, ◌⊎◌, ℕ, ◌≤◌, true, false,
 use Rattle.rq_disk.specs.Device.{Leaves, Elapses}
 use Rattle.rq_disk.specs.declared.device.PageDevice.{Ghosts}
 use Rattle.rq_page.specs.Pages.{lsn_of}
+use Rattle.rq_pool.specs.Indexed.{AreFlaggedAlike}
 use Rattle.rq_pool.specs.Pooled.{Pooled, image_at, is_changed}
 
 module _ {P : Type 0} (g : Ghosts P) (forced : ℕ) where
@@ -27,12 +28,14 @@ module _ {P : Type 0} (g : Ghosts P) (forced : ℕ) where
     pub lsn : lsn_of (image_at old.images p) ≤ forced
     pub reads : g.seen new.device p ≡ image_at old.images p
 
-  -- Pages are kept up. Where the device is honest, each has its image. None counts as changed that did not, and one that does so
+  -- Pages are kept up. Where the device is honest, each has its image; whatever it is, the same cells are free, and the same groups
+  -- closed. None counts as changed that did not, and one that does so
   -- no more is written out. The device reads each that did not count as changed as before. A crash, now or at any moment of it,
   -- leaves of each what it might have left, or its image, if that was changed and is forced.
   pub record IsKeptUp (old new : Pooled P) : Type 0 where
     pub sizes : new.sizes ≡ old.sizes
     pub images : g.honest new.device → new.images ≡ old.images
+    pub flags : AreFlaggedAlike old.sizes old.images new.images
     pub changed : (p : ℕ) → is_changed new.changed p ≡ true → StaysChanged old new p
     pub written : (p : ℕ) → is_changed old.changed p ≡ true → is_changed new.changed p ≡ false → IsWrittenOut old new p
     pub others : (p : ℕ) → is_changed old.changed p ≡ false → g.seen new.device p ≡ g.seen old.device p

@@ -163,7 +163,7 @@ impl<P: PageDevice> Pages<P> {
         let _layout = self.layout;
     }
 
-    /// Each page stands in a frame, so no read fails, for proofs: it runs no code.
+    /// Each page behind the superblock stands in a frame, so no read fails, for proofs: it runs no code.
     pub fn shows_framed(&self)
         ensures { AreAllFramed self.now }
     {
@@ -214,6 +214,7 @@ impl<P: PageDevice> Pages<P> {
         ensures changed { self.new.changed ≡ slice_set self.old.changed (at / 16) true }
         ensures sizes { self.new.sizes ≡ self.old.sizes }
         ensures device { self.new.device ≡ self.old.device }
+        ensures frames { (self.new.frames ≡ self.old.frames) × (self.new.apart ≡ self.old.apart) }
         ensures pool { IsPool self.new.sizes self.new.images }
     {
         write_slot(&mut self.frames, at, image, lsn);
@@ -241,6 +242,7 @@ impl<P: PageDevice> Pages<P> {
         ensures same { result ≡ false → self.new.changed ≡ self.old.changed }
         ensures sizes { self.new.sizes ≡ self.old.sizes }
         ensures device { self.new.device ≡ self.old.device }
+        ensures frames { (self.new.frames ≡ self.old.frames) × (self.new.apart ≡ self.old.apart) }
     {
         let made = redo_frame(&mut self.frames, levels, at.page(), lsn, record);
         if made {
@@ -264,8 +266,7 @@ impl<P: PageDevice> Pages<P> {
         ensures sizes { self.new.sizes ≡ self.old.sizes }
         ensures device { DeviceAfter P.PageDevice page
             (image_at self.old.images page) self.old.device self.new.device result }
-        ensures frames { self.new.frames ≡ self.old.frames }
-        ensures apart { self.new.apart ≡ self.old.apart }
+        ensures frames { (self.new.frames ≡ self.old.frames) × (self.new.apart ≡ self.old.apart) }
         ensures excused { result ≡ Err Refusal.DiskWrite
             → P.excuse (Writes page (image_at self.old.images page)) self.old.device self.new.device }
     {

@@ -11,4 +11,4 @@ returns g c =
     let frames = c.self.inside.frames.items in
     let count = c.self.invariant.0.pool.count in
     let long = length-map frames image_of in
-    subst (λ (v : Pooled _). AreAllFramed v) c.self.view_is (λ p lt. stands _ (length frames) p refl (omega (arith, count, long, lt)))
+    subst (λ (v : Pooled _). AreAllFramed v) c.self.view_is (λ p behind lt. stands _ (length frames) p refl (omega (arith, count, long, lt)))
