@@ -69,6 +69,7 @@ impl<B: Level> Levels<B> {
     }
 
     /// What the end of an operation of the level answers, by the bytes of its deed; none where they are no deed.
+    #[inline(always)]
     pub fn outcome(&self, level: usize, deed: &[u8]) -> Option<Outcome>
         requires { level < length self.now }
         ensures { result ≡ option_map answer_of (deed_by level deed.now) }

@@ -2,7 +2,7 @@
 use Rattle.std.proofs.Common.{◌≡◌, ◌≢◌, ◌↔◌, inl, inr, ℕ, ◌/◌, ◌%◌, ◌^◌, ◌<◌, ◌≤◌, ◌&&◌, true, false, nat_lt, List, [], ◌∷◌, ◌++◌, length, Result, Ok, Err, Option, Some, None, refl, sym, ◌∙◌, ap, subst, arith, append_assoc}
 use Rattle.std.specs.Prelude.{IfOk, IfErr, IfNone, IfSome}
 use Rattle.std.specs.List.{filter}
-use Rattle.std.proofs.lemmas.Bool.{and_from, and_parts, cases_Bool, lt-ltb, ltb-true}
+use Rattle.std.proofs.lemmas.Bool.{and_from, and_parts, cases_Bool, false≢true, lt-ltb, ltb-true}
 use Rattle.rq_model.specs.declared.record.Record.{Record}
 use Rattle.rq_model.specs.declared.record.Record.TheVariants as records
 use Rattle.rq_model.specs.declared.refusal.Refusal.{Refusal}
@@ -20,7 +20,7 @@ use Rattle.rq_log.specs.Places as log_places
 use Rattle.rq_log.specs.Spelled.{AreSpelled, spelled, spelled_all}
 use Rattle.rq_log.proofs.Keeping.{few_bytes}
 use Rattle.rq_views.specs.Items.{operation}
-use Rattle.rq_views.specs.Log.{same_op}
+use Rattle.rq_views.specs.Legal.{is_of}
 use Rattle.rq_views.proofs.Overlay.{same_is, same_self}
 use Rattle.rq_analysis.specs.declared.dues.PendingUndo.{PendingUndo}
 use Rattle.rq_analysis.specs.declared.open_work.UndoableWrite.{UndoableWrite}
@@ -28,6 +28,7 @@ use Rattle.rq_analysis.specs.declared.open_work.NextUndo.TheVariants.{Write}
 use Rattle.rq_analysis.proofs.Lists.{first_in}
 use Rattle.rq_analysis.specs.OpenWorkView.{OpenWorkView, lsn_undoable, open_work_of, undoable_at, undoable_by}
 use Rattle.rq_analysis.specs.Pages.{IsNextUndo, IsUndoneNext, undo_of}
+use Rattle.rq_analysis.specs.Rules.{op_of}
 use Rattle.rq_analysis.specs.Pages.IsNextUndo.{Undoes}
 use Rattle.rq_restart.specs.declared.analysis.Analysis.{Analysis}
 use Rattle.rq_restart.specs.declared.places.Place.{Place}
@@ -95,6 +96,10 @@ not_told g old new lsn place log r at why.DiskRead h = h
 not_told g old new lsn place log r at (why.Damaged (damage.Record n)) h = (h.1, λ honest. h.2 honest r at)
 not_told g old new lsn place log r at _ h = absurd h
 
+-- one that is not of the operation of its place is not the one that stands there
+pub not_own : (by : Sub) (told stands : Record) → is_of by (op_of told) ≡ false → told ≡ stands → op_of stands ≡ Some by → ⊥
+not_own by told stands other is own = false≢true (sym other ∙ ap (is_of by) (ap op_of is ∙ own) ∙ same_self by)
+
 -- ---- the newest write of all
 
 module _ (f : Analysis) (log : List Record) (are : IsAnalysisOf f log) (lsn : ℕ) (next : IsUndoneNext f.open_work (Write lsn)) where
@@ -161,7 +166,7 @@ module _ (f : Analysis) (log : List Record) (are : IsAnalysisOf f log) (lsn : �
       subst (λ l. HasRecord log l lsn) (sym e) (record {
         rise = subst (λ (s : OpenPlaces). AreRising s.writes) (sym are.places) (writes_rise log);
         kept = write_is_kept;
-        stands = λ p i same. (told p i same, write_at p i same);
+        stands = λ q i same. (told q i same, write_at q i same, ap (λ (o : Sub). Some o) (sym (stands q i same).0));
       })
 
 -- ---- as its level undoes it
@@ -215,17 +220,11 @@ not_put_back kept r _ h = absurd h
 -- ---- what is to be taken back
 
 pub due_named : (p : Place) (r : Record) → IfErr (due_told p r) (λ e. e ≡ why.Damaged (damage.Record p.lsn))
-due_named p (records.OpEnd t n level deed) = elim (cases_Bool (same_op (operation t n) p.by)) [
-  | inl y ↦ rw y tt
-  | inr n ↦ rw n refl
-]
+due_named p (records.OpEnd t n level deed) = tt
 due_named p _ = refl
 
 pub due_like : (p : Place) (r : Record) → IfOk (due_told p r) (λ d. (d.txn ≡ p.by.txn) × (d.lsn ≡ p.lsn))
-due_like p (records.OpEnd t n level deed) = elim (cases_Bool (same_op (operation t n) p.by)) [
-  | inl y ↦ rw y (refl, refl)
-  | inr n ↦ rw n tt
-]
+due_like p (records.OpEnd t n level deed) = (refl, refl)
 due_like p _ = tt
 
 module _ (f : Analysis) (log : List Record) (are : IsAnalysisOf f log) (t : Txn) (lsn : ℕ) (d : PendingUndo) (i : In d f.dues) (of : d.txn ≡ t) (at : d.lsn ≡ lsn) where
@@ -237,14 +236,14 @@ module _ (f : Analysis) (log : List Record) (are : IsAnalysisOf f log) (t : Txn)
     end_there = due_there log d kept (subst (In d) are.dues i) (subst (λ (s : OpenPlaces). In kept s.ends) are.places among) (same ∙ sym at)
 
     pub due_is : due_told kept (end_due d) ≡ Ok d
-    due_is = rw (end_there.0, same ∙ sym at, same_self (operation d.txn d.number)) refl
+    due_is = rw (end_there.0, same ∙ sym at) refl
 
   pub due_has : (ps : List Place) → ps ≡ f.places.ends → HasRecord log ps lsn
   due_has ps e =
       subst (λ l. HasRecord log l lsn) (sym e) (record {
         rise = subst (λ (s : OpenPlaces). AreRising s.ends) (sym are.places) (ends_rise log);
         kept = due_is_kept;
-        stands = λ p i same. (end_due d, (end_there p i same).1);
+        stands = λ p i same. (end_due d, (end_there p i same).1, ap (λ (o : Sub). Some o) (sym (end_there p i same).0));
       })
 
 -- ---- a PageUndo that is read

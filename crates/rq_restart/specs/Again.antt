@@ -1,5 +1,5 @@
 -- Records that are read again, where they are to be undone.
-use Rattle.std.specs.Prelude.{◌≡◌, ◌≢◌, ℕ, ◌+◌, ◌%◌, ◌^◌, ◌<◌, ◌≤◌, ◌&&◌, nat_lt, cond, List, length, Result, Ok, Err}
+use Rattle.std.specs.Prelude.{◌≡◌, ◌≢◌, ℕ, ◌+◌, ◌%◌, ◌^◌, ◌<◌, ◌≤◌, ◌&&◌, nat_lt, cond, List, length, Some, Result, Ok, Err}
 use Rattle.rq_model.specs.declared.record.Record.{Record}
 use Rattle.rq_model.specs.declared.record.Record.TheVariants.{PageOp, PageUndo, OpEnd}
 use Rattle.rq_model.specs.declared.refusal.Refusal.{Refusal}
@@ -9,11 +9,10 @@ use Rattle.rq_model.specs.Vocabulary.{In}
 use Rattle.rq_disk.specs.declared.device.LogDevice.{Ghosts}
 use Rattle.rq_log.specs.Places.{IsAt}
 use Rattle.rq_record.specs.Spelling.{IsSlotNumber}
-use Rattle.rq_views.specs.Items.{operation}
-use Rattle.rq_views.specs.Log.{same_op}
 use Rattle.rq_analysis.specs.declared.dues.PendingUndo.{PendingUndo}
 use Rattle.rq_analysis.specs.OpenWorkView.{OpenWorkView}
 use Rattle.rq_analysis.specs.Pages.{IsNextUndo}
+use Rattle.rq_analysis.specs.Rules.{op_of}
 use Rattle.rq_restart.specs.Places.{AreRising}
 use Rattle.rq_restart.specs.declared.places.Place.{Place}
 
@@ -40,16 +39,14 @@ NotMadeFor (Err told) e = e ≡ told
 
 -- what the operation of this place did, as this record of its end tells it
 abbrev pub due_told : Place → Record → Result PendingUndo Refusal
-due_told p (OpEnd t n level deed) = cond (same_op (operation t n) p.by)
-    (Ok (record { txn = p.by.txn; lsn = p.lsn; number = p.by.number; level = level; deed = deed }))
-    (Err (why.Damaged (damage.Record p.lsn)))
+due_told p (OpEnd t n level deed) = Ok (record { txn = p.by.txn; lsn = p.lsn; number = p.by.number; level = level; deed = deed })
 due_told p _ = Err (why.Damaged (damage.Record p.lsn))
 
--- a record with this LSN has its place among these, by rising LSN, and stands where each with this LSN says
+-- a record with this LSN has its place among these, by rising LSN; where each with this LSN says, one of its operation stands
 pub record HasRecord (log : List Record) (places : List Place) (lsn : ℕ) : Type 0 where
   pub rise : AreRising places
   pub kept : ((p : Place) → In p places → p.lsn ≢ lsn) → ⊥
-  pub stands : (p : Place) → In p places → p.lsn ≡ lsn → (r : Record) × IsAt log p.place r
+  pub stands : (p : Place) → In p places → p.lsn ≡ lsn → (r : Record) × IsAt log p.place r × (op_of r ≡ Some p.by)
 
 -- the record wrote this slot, over these bytes
 abbrev pub WroteOver : Record → ℕ → ℕ → List ℕ → Type 0

@@ -1,16 +1,18 @@
 //! Records of a log that are read again, where they are to be undone.
-ghost use Rattle.std.specs.Prelude.{◌≡◌, ◌↔◌, ◌∷◌, ◌/◌, ◌%◌, ◌^◌, ◌<◌, Ok, List, Some, IsTrue, IfOk, IfErr, IfSome, IfNone, OnOk, false, length};
+ghost use Rattle.std.specs.Prelude.{◌≡◌, ◌↔◌, ◌∷◌, ◌/◌, ◌%◌, ◌^◌, ◌<◌, Ok, List, Some, IsTrue, IfOk, IfErr, IfSome, IfNone, OnOk, false, true, length};
 ghost use Rattle.std.specs.List.{filter};
 ghost use Rattle.rq_model.specs.declared.record.Record.TheVariants as records;
 ghost use Rattle.rq_model.specs.declared.record.Record.{Record as AnyRecord};
 ghost use Rattle.rq_model.specs.Bases.{is_base};
 ghost use Rattle.rq_model.specs.Vocabulary.{In, first};
+ghost use Rattle.rq_views.specs.Legal.{is_of};
 ghost use Rattle.rq_log.specs.Places.{IsAt};
 ghost use Rattle.rq_log.specs.Reading.{IsRead};
 ghost use Rattle.rq_analysis.specs.declared.dues.PendingUndo.{PendingUndo as Due};
 ghost use Rattle.rq_analysis.specs.LogTables.{PutsBack};
 ghost use Rattle.rq_analysis.specs.OpenWorkView.{lsn_undoable, undoable_by};
 ghost use Rattle.rq_analysis.specs.Pages.{IsNextUndo, IsUndoneNext, void_of};
+ghost use Rattle.rq_analysis.specs.Rules.{op_of};
 ghost use Rattle.rq_restart.specs.Aborting.{blamed_on};
 ghost use Rattle.rq_restart.specs.Again.{HasRecord, IsLikeUndo, NotGivenFor, NotMadeFor, NotReadFor, NotToldFor, NotUndoneFor, WroteOver, due_told, told_again, undo_told};
 ghost use Rattle.rq_restart.specs.Found.{IsAnalysisOf};
@@ -151,29 +153,18 @@ pub(crate) fn due_again<L: LogDevice>(
     }
 }
 
-// What the operation of this place did, as this record tells it: the record has to be of its end.
+// What the operation of this place did, as this record tells it: the record has to be an end.
 fn due_as(kept: &Place, told: &Record) -> Result<PendingUndo, Refusal>
     ensures { result ≡ due_told kept.now told.now }
 {
     match told {
-        Record::OpEnd {
-            txn,
-            operation,
-            level,
-            deed,
-        } => {
-            if sub(txn, *operation) == kept.by {
-                Ok(PendingUndo {
-                    txn: kept.by.txn,
-                    lsn: kept.lsn,
-                    number: kept.by.number,
-                    level: *level,
-                    deed: *deed,
-                })
-            } else {
-                Err(Refusal::Damaged(Damage::Record(kept.lsn)))
-            }
-        }
+        Record::OpEnd { level, deed, .. } => Ok(PendingUndo {
+            txn: kept.by.txn,
+            lsn: kept.lsn,
+            number: kept.by.number,
+            level: *level,
+            deed: *deed,
+        }),
         _ => Err(Refusal::Damaged(Damage::Record(kept.lsn))),
     }
 }
@@ -188,7 +179,7 @@ pub(crate) fn blamed(lsn: Lsn, refusal: Refusal) -> Refusal
     }
 }
 
-// The one of these places that is of the record with this LSN, and the record.
+// The one of these places that is of the record with this LSN, and the record. One of another operation is damage.
 fn kept_record<L: LogDevice>(
     log: &mut Log<L>,
     places: &[Place],
@@ -197,6 +188,7 @@ fn kept_record<L: LogDevice>(
     requires has { HasRecord log.old.records places.now lsn }
     requires running { log.old.failed ≡ false }
     ensures place { IfOk result (λ kept. In kept.0 places.now × (kept.0.lsn ≡ lsn)) }
+    ensures own { IfOk result (λ kept. is_of kept.0.by (op_of kept.1) ≡ true) }
     ensures is { IfOk result (λ kept. L.honest log.new.device → (s : AnyRecord) → IsAt log.old.records kept.0.place s
         → kept.1 ≡ s) }
     ensures room { OnOk result (length log.old.records < 2 ^ 50) }
@@ -208,10 +200,33 @@ fn kept_record<L: LogDevice>(
     log.shows_kept();
     match place_with(places, lsn) {
         Some(kept) => match record_again(log, kept.place, lsn) {
-            Ok(told) => Ok((kept, told)),
+            Ok(told) => {
+                if is_of(&told, kept.by) {
+                    Ok((kept, told))
+                } else {
+                    Err(Refusal::Damaged(Damage::Record(lsn)))
+                }
+            }
             Err(refusal) => Err(refusal),
         },
         None => Err(Refusal::Damaged(Damage::Record(lsn))),
+    }
+}
+
+// Whether the record is of this operation.
+fn is_of(told: &Record, by: Sub) -> bool
+    ensures own { result ≡ is_of by (op_of told.now) }
+{
+    match told {
+        Record::PageOp { txn, operation, .. } => sub(txn, *operation) == by,
+        Record::PageUndo { txn, operation, .. } => sub(txn, *operation) == by,
+        Record::OpEnd { txn, operation, .. } => sub(txn, *operation) == by,
+        Record::OpVoid { txn, operation } => sub(txn, *operation) == by,
+        Record::CompEnd { txn, operation, .. } => sub(txn, *operation) == by,
+        Record::Commit { .. } => false,
+        Record::AbortEnd { .. } => false,
+        Record::Restart { .. } => false,
+        Record::Base { .. } => false,
     }
 }
 
