@@ -1,5 +1,5 @@
 -- What the level plans, as the engine's starts have it.
-use Rattle.std.proofs.Common.{◌≡◌, ◌≢◌, ℕ, ◌+◌, ◌/◌, ◌%◌, ◌<◌, ◌≤◌, cond, nat_lt, List, [], ◌∷◌, length, refl, sym, ◌∙◌, ap, subst, inl, inr, true, false, Option, Some, None, Result, Ok, Err, arith}
+use Rattle.std.proofs.Common.{◌≡◌, ◌≢◌, ℕ, ◌+◌, ◌/◌, ◌%◌, ◌<◌, ◌≤◌, cond, nat_eq, nat_lt, List, [], ◌∷◌, length, refl, sym, ◌∙◌, ap, subst, inl, inr, true, false, Option, Some, None, Result, Ok, Err, arith}
 use Rattle.std.specs.Prelude.{IfErr, OnErr, OnOk}
 use Rattle.std.proofs.lemmas.Bool.{cases_Bool, false_from_ne_true, ltb-true, or_cases, or_left, false≢true, true≢false}
 use Rattle.rq_model.specs.declared.record.Deed.{Deed}
@@ -10,7 +10,9 @@ use Rattle.rq_model.specs.declared.record.Deed.TheVariants.{Append, UnlinkHead, 
 use Rattle.rq_model.specs.declared.record.Record.{Record}
 use Rattle.rq_model.specs.Deeds.{deed_by, spelled_deed, TellsItself}
 use Rattle.rq_model.proofs.Deeds.{told_by_its_level}
-use Rattle.rq_model.specs.Tests.{log_full}
+use Rattle.rq_model.specs.Commits.{op_of}
+use Rattle.rq_model.specs.Content.{said}
+use Rattle.rq_model.specs.Tests.{log_full, undo_cost}
 use Rattle.rq_page.specs.declared.cell.Cell.{Cell}
 use Rattle.rq_page.specs.declared.cell.CellSlot.{CellSlot}
 use Rattle.rq_page.specs.declared.layout.PageKind.{PageKind}
@@ -27,13 +29,10 @@ use Rattle.rq_views.proofs.Stands.{page_of_cells}
 use Rattle.rq_views.specs.InStore.{IsDeedOf}
 use Rattle.rq_views.specs.Items.{told_deed}
 use Rattle.rq_views.specs.Log.{Slots}
-use Rattle.rq_views.specs.Plans.{with_next, with_prev}
-use Rattle.rq_views.specs.Plans.Turn.{Did}
+use Rattle.rq_views.specs.Plans.Turn.{Did, Undid}
 use Rattle.rq_groups.specs.declared.End.TheVariants.{Receiving}
 use Rattle.rq_level.specs.ChainPlans.{TellsDamage}
 use Rattle.rq_level.specs.declared.writes.Plan.{Plan}
-use Rattle.rq_level.specs.declared.writes.Replies.TheVariants as replies
-use Rattle.rq_level.specs.Gists.{gist_of}
 use Rattle.rq_level.specs.declared.writes.SlotWrite.{SlotWrite}
 use Rattle.rq_level.specs.Ops.{Tagging}
 use Rattle.rq_level.specs.Ops.Doing.{Send, Receive, Close}
@@ -49,13 +48,13 @@ use Rattle.rq_planner.specs.Answered.{IsDeedFor, IsHeldUp, IsPlanOf, MayBeAsked,
 use Rattle.rq_planner.specs.Asked.{Asked, IsTaskOf, Task, task_level}
 use Rattle.rq_planner.specs.Asked.Asked.{Do}
 use Rattle.rq_planner.specs.Asked.Task.{Chain, Tag}
+use Rattle.rq_planner.specs.Lawful.{IsLawfulPlan}
 use Rattle.rq_engine.specs.Closes.{IsClosePlan, close_latched}
 use Rattle.rq_engine.specs.Marks.{IsMarkPlan, mark_latched}
 use Rattle.rq_engine.specs.Earlier.{IsEarlier, on}
-use Rattle.rq_engine.specs.Plans.{AreHeldUp, ComesOf, HasStarted, IsDeedPlan, IsStartOf, IsTakeOf, IsWithin, Planned, RepliesDeed, is_latch, is_latched, known_part, planned_of, records_of, under_plan}
+use Rattle.rq_engine.specs.Plans.{AreHeldUp, ComesOf, HasStarted, IsDeedPlan, IsStartOf, IsTakeOf, IsWithin, Planned, is_latch, is_latched, known_part, planned_of, records_of, under_plan}
 use Rattle.rq_engine.specs.Sends.{HasRoom, take_latched}
 use Rattle.rq_engine.proofs.Latches.{one_write}
-use Rattle.rq_engine.proofs.Inverses.{of_writes, relinked_count}
 use Rattle.rq_engine.proofs.SendCalls.{has_room}
 
 -- it is of the store
@@ -71,64 +70,43 @@ asked_stored z (Chain (Close g)) (Close_deed h) is inside = let same : h ≡ g =
 asked_stored z (Tag x) (Mark c t previous) is inside = (let same : c ≡ x.client = is.0 in let below = inside.0 in omega (arith, same, below), inside.1)
 asked_stored z task e is inside = absurd is
 
--- its bytes are some: its kind comes first
-spelled_some : (d : Deed) → 1 ≤ length (spelled_deed d)
-spelled_some (Append g n tag previous body) = omega arith
-spelled_some (UnlinkHead g n tag body) = omega arith
-spelled_some (Close_deed g) = omega arith
-spelled_some (Mark c tag previous) = omega arith
-
--- three writes at most
-pub few_of : (z : Sizes) (q : Slots) (us : List SlotWrite) (e : Deed) → IsPlannedFrom z q us (Did e) → length us ≤ 3
-few_of z q us (Append g n tag previous body) p =
-    let a = of_writes z us _ p.writes in
-    let b = relinked_count p.directory.tail p.old (with_next p.new) (record { at = p.new; before = Free; after = Used (record { sender = g; sequence = p.directory.sent + 1; tag = tag; body = body; next = 0; prev = p.directory.tail }) } ∷ []) in
-    omega (arith, a, b)
-few_of z q us (UnlinkHead g n tag body) p =
-    let a = of_writes z us _ p.writes in
-    let b = relinked_count p.cell.next p.next (with_prev 0) (record { at = p.directory.head; before = Used p.cell; after = Free } ∷ []) in
-    omega (arith, a, b)
-few_of z q us (Close_deed g) p = let a = of_writes z us _ p.writes in omega (arith, a)
-few_of z q us (Mark c tag previous) p = let a = of_writes z us _ p.writes in omega (arith, a)
-
 pub some_task : (a b : Task) → Some a ≡ Some b → a ≡ b
 some_task a b e = cc
 
--- bytes that are a deed's spelling, and are read as it
-told_by : (level : ℕ) (bytes : List ℕ) (d : Deed) → bytes ≡ spelled_deed d → deed_by level bytes ≡ Some d → IsTold level bytes
-told_by level bytes d spelled reads =
-    let is : told_deed (deed_by level bytes) ≡ d = ap told_deed reads in
-    record { reads = reads ∙ ap (λ (e : Deed). Some e) (sym is); spelled = ap spelled_deed is ∙ sym spelled }
+-- bytes that tell a deed are some
+pub some_told : (level : ℕ) (bytes : List ℕ) (d : Deed) → deed_by level bytes ≡ Some d → 1 ≤ length bytes
+some_told level [] d told = elim (cases_Bool (nat_eq level 1)) [
+  | inl one ↦ absurd (let no : None ≡ Some d = rw one at told in cc)
+  | inr other ↦ elim (cases_Bool (nat_eq level 2)) [
+    | inl two ↦ absurd (let no : None ≡ Some d = rw (other, two) at told in cc)
+    | inr none ↦ absurd (let no : None ≡ Some d = rw (other, none) at told in cc)
+  ]
+]
+some_told level (b ∷ bytes) d told = omega arith
+
+-- a deed that is told is read in its spelling
+pub tells_itself : (level : ℕ) (bytes : List ℕ) → IsTold level bytes → TellsItself (told_deed (deed_by level bytes))
+tells_itself level bytes told =
+    let d = told_deed (deed_by level bytes) in
+    ap (λ n. deed_by n (spelled_deed d)) (told_by_its_level level bytes d told.reads) ∙ ap (deed_by level) told.spelled ∙ told.reads
 
 module _ (s : State) (d : Task) (p : Plan) (h : IsPlanOf (known_part s) d p) (level : ℕ) (of_level : level ≡ task_level d) where
-  plan_reads : deed_by level p.deed ≡ Some h.deed
-  plan_reads = ap (λ n. deed_by n p.deed) of_level ∙ h.reads
+  asked_for : IsDeedFor d (planned_of level p).deed
+  asked_for = subst (λ n. IsDeedFor d (planned_of n p).deed) (sym of_level) h.asked
 
-  pub tells_deed : RepliesDeed level p
-  tells_deed = record {
-    told = told_by level p.deed h.deed h.told plan_reads;
-    reply = h.reply ∙ ap (λ e. replies.Deed (gist_of e)) (sym (ap told_deed plan_reads));
-  }
+  pub deed_inside : IsWithin s.sizes d → IsDeedOf s.sizes (planned_of level p).deed
+  deed_inside inside = asked_stored s.sizes d (planned_of level p).deed asked_for inside
 
   -- with its deed
-  pub deed_plan : IsWithin s.sizes d → IsDeedPlan s d (planned_of level p)
-  deed_plan inside =
-      let deed : h.deed ≡ told_deed (deed_by level p.deed) = sym (ap told_deed plan_reads) in
-      let asked : IsDeedFor d (told_deed (deed_by level p.deed)) = subst (IsDeedFor d) deed h.asked in
-      let from : IsPlannedFrom s.sizes (slots_now s) p.writes.items (Did (told_deed (deed_by level p.deed))) = subst (λ (e : Deed). IsPlannedFrom s.sizes (slots_now s) p.writes.items (Did e)) deed h.follows.0 in
-      record {
-        asked = asked;
-        planned = from;
-        free = h.follows.1;
-        lowest = h.lowest;
-        fits = record {
-          sender = asked_stored s.sizes d (told_deed (deed_by level p.deed)) asked inside;
-          slots = h.slots;
-          count = few_of s.sizes (slots_now s) p.writes.items (told_deed (deed_by level p.deed)) from;
-          some = spelled_some (told_deed (deed_by level p.deed));
-          reads = subst TellsItself deed (ap (λ n. deed_by n (spelled_deed h.deed)) (told_by_its_level level p.deed h.deed plan_reads) ∙ ap (deed_by level) (sym h.told) ∙ plan_reads);
-        };
-      }
+  pub deed_plan : IsLawfulPlan s.sizes level p → IsDeedPlan s d (planned_of level p)
+  deed_plan lawful = record {
+    asked = asked_for;
+    planned = subst (λ n. IsPlannedFrom s.sizes (slots_now s) p.writes.items (Did (planned_of n p).deed)) (sym of_level) h.follows.0;
+    free = h.follows.1;
+    lowest = h.lowest;
+    count = lawful.count;
+    reads = tells_itself level p.deed lawful.told;
+  }
 
 -- ---- what a start answers
 
@@ -239,7 +217,7 @@ module _ (s : State) (g n : ℕ) (plan : Planned) (below : g < sender_count s.si
       below = below;
       marking = subst (λ (m : ℕ). IsMarking s.sizes (slots_now s) plan.writes m true) same p;
       aim = ap (λ (e : Deed). aims.Doing e) (is ∙ ap Close_deed same);
-      reads = h.fits.reads;
+      reads = h.reads;
     }
     at (Append x m t previous b) is same p = absurd same
     at (UnlinkHead x m t b) is same p = absurd same
@@ -263,7 +241,7 @@ module _ (s : State) (g n : ℕ) (plan : Planned) (below : g < sender_count s.si
           beside = q.beside;
           aim = ap (λ (i : Deed). aims.Doing i) (is ∙ e ∙ ap (λ i. Append g i tag previous body) q.sequence ∙ ap (λ i. Append g (q.directory.sent + 1) tag i body) q.previous_is);
           writes = q.writes;
-          reads = h.fits.reads;
+          reads = h.reads;
         }
     at (UnlinkHead x m t b) is same p = absurd same
     at (Close_deed x) is same p = absurd same
@@ -304,7 +282,7 @@ take_plan s g n plan below h = at plan.deed refl h.asked h.planned where
         beside = q.beside;
         aim = ap (λ (i : Deed). aims.Doing i) (is ∙ e ∙ ap (λ i. UnlinkHead g i t b) q.sequence ∙ ap (λ i. UnlinkHead g (q.directory.received + 1) i b) q.tag_is ∙ ap (λ i. UnlinkHead g (q.directory.received + 1) q.cell.tag i) q.body_is);
         writes = q.writes;
-        reads = h.fits.reads;
+        reads = h.reads;
       }
   at (Append x m t previous b) is same p = absurd same
   at (Close_deed x) is same p = absurd same
@@ -339,7 +317,7 @@ mark_plan s t n plan below h = at plan.deed refl h.asked h.planned where
         below = below;
         tagging = subst (λ (i : Deed). IsPlannedFrom s.sizes (slots_now s) plan.writes (Did i)) e p;
         aim = ap (λ (i : Deed). aims.Doing i) (is ∙ e);
-        reads = h.fits.reads;
+        reads = h.reads;
       }
   at (Append x m tag previous b) is same p = absurd same
   at (UnlinkHead x m tag b) is same p = absurd same
@@ -351,7 +329,14 @@ mark_one s t plan below h = one_write _ plan.writes _ (mark_plan s t 0 plan belo
 
 -- the log has room for what is planned where its tests said so
 pub plan_room : (s : State) (d : Task) (plan : Planned) → IsWithin s.sizes d → log_full (ledger_of s) (records_of d) ≡ false → IsDeedPlan s d plan → HasRoom s plan.writes
-plan_room s (Chain (Send g tag body)) plan below log h = has_room s plan.writes 4 log (let few = h.fits.count in omega (arith, few))
-plan_room s (Chain (Receive g)) plan below log h = has_room s plan.writes 4 log (let few = h.fits.count in omega (arith, few))
+plan_room s (Chain (Send g tag body)) plan below log h = has_room s plan.writes 4 log (let few = h.count in omega (arith, few))
+plan_room s (Chain (Receive g)) plan below log h = has_room s plan.writes 4 log (let few = h.count in omega (arith, few))
 plan_room s (Chain (Close g)) plan below log h = has_room s plan.writes 2 log (let one = close_one s g plan below h in omega (arith, one))
 plan_room s (Tag t) plan below log h = has_room s plan.writes 2 log (let one = mark_one s t plan below.0 h in omega (arith, one))
+
+-- no more, with an end, than an inverse is counted as
+pub few_writes : (z : Sizes) (q : Slots) (us : List SlotWrite) (d : Deed) → length us ≤ 3 → IsPlannedFrom z q us (Undid d) → length us + 1 ≤ undo_cost (Some (op_of (said d)))
+few_writes z q us (Append g n tag previous body) few p = omega (arith, few)
+few_writes z q us (UnlinkHead g n tag body) few p = omega (arith, few)
+few_writes z q us (Close_deed g) few p = let one = one_write z us _ p.writes in omega (arith, one)
+few_writes z q us (Mark c tag previous) few p = let one = one_write z us _ p.writes in omega (arith, one)

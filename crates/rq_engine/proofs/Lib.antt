@@ -11,7 +11,6 @@ pub mod Refusals
 pub mod Standing
 pub mod Latches
 pub mod Free
-pub mod Inverses
 pub mod Leveled
 pub mod Calls
 pub mod SendCalls

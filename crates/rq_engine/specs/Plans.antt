@@ -5,18 +5,15 @@ use Rattle.rq_model.specs.declared.record.Record.{Record}
 use Rattle.rq_model.specs.declared.refusal.Refusal.{Refusal}
 use Rattle.rq_model.specs.declared.refusal.Refusal.TheVariants as why
 use Rattle.rq_model.specs.declared.txn.Txn.{Txn}
-use Rattle.rq_model.specs.Deeds.{deed_by, spelled_deed, TellsItself}
+use Rattle.rq_model.specs.Deeds.{deed_by, TellsItself}
 use Rattle.rq_model.specs.Tests.{log_full}
 use Rattle.rq_page.specs.Sizes.{Sizes, client_count, sender_count}
-use Rattle.rq_views.specs.InStore.{IsDeedOf}
 use Rattle.rq_views.specs.Items.{told_deed}
 use Rattle.rq_views.specs.Plans.Turn.{Did, Undid}
 use Rattle.rq_level.specs.ChainPlans.{TellsDamage}
 use Rattle.rq_level.specs.Ops.Doing.{Send, Receive, Close}
 use Rattle.rq_level.specs.declared.writes.Plan.{Plan}
-use Rattle.rq_level.specs.declared.writes.Replies.TheVariants as replies
 use Rattle.rq_level.specs.declared.writes.SlotWrite.{SlotWrite}
-use Rattle.rq_level.specs.Gists.{gist_of}
 use Rattle.rq_level.specs.Writes.{AreSlotWrites}
 use Rattle.rq_groups.specs.declared.End.{End}
 use Rattle.rq_groups.specs.declared.End.TheVariants.{Receiving}
@@ -24,7 +21,6 @@ use Rattle.rq_groups.specs.Sides.{is_free_end, with_end}
 use Rattle.rq_txn.specs.declared.Aim.TheVariants as aims
 use Rattle.rq_txn.specs.declared.Finished.{Finished}
 use Rattle.rq_txn.specs.Rows.{Under, change_row, row_started}
-use Rattle.rq_txn.specs.Told.{IsTold}
 use Rattle.rq_store.specs.Plans.{WaitsFor}
 use Rattle.rq_store.specs.State.{State, ledger_of}
 use Rattle.rq_sound.specs.Groups.{slots_now}
@@ -52,30 +48,19 @@ pub record Planned : Type 0 where
 abbrev pub planned_of : (level : ℕ) → Plan → Planned
 planned_of level p = record { writes = p.writes.items; deed = told_deed (deed_by level p.deed) }
 
--- its end replies the deed that it tells
-pub record RepliesDeed (level : ℕ) (p : Plan) : Type 0 where
-  pub told : IsTold level p.deed
-  pub reply : p.reply ≡ replies.Deed (gist_of (told_deed (deed_by level p.deed)))
-
 -- the operation that a plan begins as
 abbrev pub under_plan : ℕ → Planned → Under
 under_plan number plan = record { number = number; writes = plan.writes; made = 0; aim = aims.Doing plan.deed }
 
--- the plan writes slots of the store, three at most; its deed is one of the store's, and its bytes tell it
-pub record FitsPlan (z : Sizes) (plan : Planned) : Type 0 where
-  pub sender : IsDeedOf z plan.deed
-  pub slots : AreSlotWrites z plan.writes
-  pub count : length plan.writes ≤ 3
-  pub some : 1 ≤ length (spelled_deed plan.deed)
-  pub reads : TellsItself plan.deed
-
--- A plan of what is to be done, from the slots as they are, on pages that nobody has latched.
+-- A plan of what is to be done, from the slots as they are, on pages that nobody has latched: three writes at most, and a deed
+-- that its bytes tell.
 pub record IsDeedPlan (s : State) (task : Task) (plan : Planned) : Type 0 where
   pub asked : IsDeedFor task plan.deed
   pub planned : IsPlannedFrom s.sizes (slots_now s) plan.writes (Did plan.deed)
   pub free : AreUnlatched s plan.writes
   pub lowest : SendTakesLowest s.sizes (slots_now s) s.rows task plan.writes
-  pub fits : FitsPlan s.sizes plan
+  pub count : length plan.writes ≤ 3
+  pub reads : TellsItself plan.deed
 
 -- The writes that take back a deed, from the slots as they are, on pages that nobody has latched.
 pub record IsInversePlan (s : State) (d : Deed) (writes : List SlotWrite) : Type 0 where

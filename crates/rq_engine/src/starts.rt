@@ -1,14 +1,16 @@
 //! Starts of what is to be done: a send, a receive, a close or a mark.
-ghost use Rattle.std.specs.Prelude.{◌≡◌, ◌≢◌, ◌≤◌, ◌<◌, IfErr, OnOk, OnErr, Some, false, true};
+ghost use Rattle.std.specs.Prelude.{◌≡◌, ◌≢◌, ◌≤◌, ◌<◌, IfErr, IfOk, OnOk, OnErr, Some, false, true};
 ghost use Rattle.rq_model.specs.Vocabulary.{is_some};
+ghost use Rattle.rq_views.specs.InStore.{IsDeedOf};
 ghost use Rattle.rq_txn.specs.Rows.{change_row, row_started, under_of};
 ghost use Rattle.rq_groups.specs.Sides.{is_free_end, with_end};
 ghost use Rattle.rq_planner.specs.Answered.{IsPlanned};
 ghost use Rattle.rq_planner.specs.Asked.{Do, IsTaskOf, Task, task_by};
+ghost use Rattle.rq_planner.specs.Lawful.{IsLawfulPlan};
 ghost use Rattle.rq_engine.specs.Opened.{LeavesDevices};
 ghost use Rattle.rq_engine.specs.Answers.{HasNothingUnderWay};
 ghost use Rattle.rq_engine.specs.Invariant.{end_bytes};
-ghost use Rattle.rq_engine.specs.Plans.{FitsPlan, HasStarted, IsStartOf, IsToStart, RepliesDeed, is_latched, known_part, planned_of, under_plan};
+ghost use Rattle.rq_engine.specs.Plans.{HasStarted, IsStartOf, IsToStart, is_latched, known_part, planned_of, under_plan};
 ghost use Rattle.rq_engine.specs.Sends.{FitsUnder, HasRoom};
 
 use crate::engine::Engine;
@@ -50,6 +52,7 @@ impl<P: PageDevice, L: LogDevice, B: Level> Engine<P, L, B> {
         requires forward { op.now.undo ≡ false }
         requires asked { is_some (task_by op.now.level op.now.bytes) ≡ true }
         ensures same { self.new ≡ self.old }
+        ensures lawful { IfOk result (IsLawfulPlan self.old.state.sizes op.now.level) }
         ensures planned { (d : Task) → task_by op.now.level op.now.bytes ≡ Some d
             → IsTaskOf self.old.state.sizes d → IsPlanned (known_part self.old.state) (Do d) result }
     {
@@ -69,8 +72,8 @@ impl<P: PageDevice, L: LogDevice, B: Level> Engine<P, L, B> {
     ) -> Result<(), Refusal>
         requires ready { HasNothingUnderWay self.old.state txn number }
         requires free { is_free_end txn end self.old.state.ends ≡ true }
-        requires told { RepliesDeed level plan }
-        requires fits { FitsPlan self.old.state.sizes (planned_of level plan) }
+        requires lawful { IsLawfulPlan self.old.state.sizes level plan }
+        requires inside { IsDeedOf self.old.state.sizes (planned_of level plan).deed }
         requires log { HasRoom self.old.state plan.writes.items }
         ensures started { OnOk result (self.new.state ≡ record self.old.state {
           rows = change_row txn

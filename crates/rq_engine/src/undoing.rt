@@ -17,6 +17,7 @@ ghost use Rattle.rq_store.specs.State.{ledger_of, op_done};
 ghost use Rattle.rq_model.specs.Vocabulary.{is_some};
 ghost use Rattle.rq_planner.specs.Answered.{IsPlanned};
 ghost use Rattle.rq_planner.specs.Asked.{Undo};
+ghost use Rattle.rq_planner.specs.Lawful.{IsLawfulInverse};
 ghost use Rattle.rq_model.specs.declared.record.Deed.{Deed};
 ghost use Rattle.rq_views.specs.InStore.{IsDeedOf};
 ghost use Rattle.rq_engine.specs.Plans.{BeginsBack, HasTurnedBack, IsStartOf, LevelsAnswer, known_part, turned_back};
@@ -113,6 +114,7 @@ impl<P: PageDevice, L: LogDevice, B: Level> Engine<P, L, B> {
         requires reads { is_some (deed_back told.now) ≡ true }
         ensures same { self.new ≡ self.old }
         ensures answered { LevelsAnswer self.old.state told.now result }
+        ensures lawful { IfOk result (IsLawfulInverse self.old.state.sizes) }
         ensures planned { (d : Deed) → deed_back told.now ≡ Some d → IsDeedOf self.old.state.sizes d
             → IsPlanned (known_part self.old.state) (Undo d) result }
     {

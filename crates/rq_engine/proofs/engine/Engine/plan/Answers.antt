@@ -1,9 +1,10 @@
-use Rattle.std.proofs.Common.{List, subst}
+use Rattle.std.proofs.Common.{IfOk, List, subst}
 use Rattle.rq_txn.specs.Rows.{Row}
 use Rattle.rq_store.specs.State.{State}
 use Rattle.rq_planner.specs.Answered.{IsPlanned}
 use Rattle.rq_planner.specs.Asked.{IsTaskOf, known_from}
 use Rattle.rq_planner.specs.Asked.Asked.{Do}
+use Rattle.rq_planner.specs.Lawful.{IsLawfulPlan}
 use Rattle.rq_planner.proofs.Knowing.{is_one}
 use Rattle.rq_planner.proofs.Asking.{asks_to_do, there_is_one}
 use Rattle.rq_engine.specs.Plans.{known_part}
@@ -18,6 +19,9 @@ plan-requires-clause-level g c = is_one c.self.inside.pages.sizes c.self.inside.
 
 pub invariant_of-self : goal.invariant_of-self
 invariant_of-self g c = record { kept = rw (c.spare-room.ensures) c.self.invariant.kept; durable = c.self.invariant.durable; cells = rw (c.plan.ensures.same) c.self.invariant.cells }
+
+pub returns-clause-lawful : goal.returns-clause-lawful
+returns-clause-lawful g c = subst (λ (s : State). IfOk c.plan.result (IsLawfulPlan s.sizes c.args.op.now.level)) (state_is c.self.view_is) c.plan.ensures.lawful
 
 pub returns-clause-planned : goal.returns-clause-planned
 returns-clause-planned g c d asked =

@@ -1,4 +1,4 @@
-use Rattle.std.proofs.Common.{List, subst}
+use Rattle.std.proofs.Common.{IfOk, List, subst}
 use Rattle.rq_views.specs.InStore.{IsDeedOf}
 use Rattle.rq_level.specs.Asked.{job_back}
 use Rattle.rq_txn.specs.Rows.{Row}
@@ -6,6 +6,7 @@ use Rattle.rq_store.specs.State.{State}
 use Rattle.rq_planner.specs.Answered.{IsAnsweredBack, IsPlanned, level_back}
 use Rattle.rq_planner.specs.Asked.{known_from}
 use Rattle.rq_planner.specs.Asked.Asked.{Undo}
+use Rattle.rq_planner.specs.Lawful.{IsLawfulInverse}
 use Rattle.rq_planner.proofs.Asking.{asks_back, has_place}
 use Rattle.rq_planner.proofs.Knowing.{is_one}
 use Rattle.rq_level.proofs.EachLevel.{all_lawful}
@@ -31,6 +32,9 @@ returns-clause-answered g c =
       knows = c.self.invariant.cells;
       answered = subst (λ (rows : List Row). IsAnsweredBack (known_from c.self.inside.pages rows) c.self.inside.planner c.args.told.now c.plan_inverse.result) c.spare-room.ensures c.plan_inverse.ensures.answered;
     })
+
+pub returns-clause-lawful : goal.returns-clause-lawful
+returns-clause-lawful g c = subst (λ (s : State). IfOk c.plan_inverse.result (IsLawfulInverse s.sizes)) (state_is c.self.view_is) (c.plan_inverse.ensures.lawful c.requires.reads)
 
 pub returns-clause-planned : goal.returns-clause-planned
 returns-clause-planned g c d told =

@@ -17,8 +17,7 @@ use Rattle.rq_level.specs.declared.writes.Plan.{Plan}
 use Rattle.rq_engine.specs.Plans.{HasTurnedBack, LevelsAnswer, known_part, turned_back}
 use Rattle.rq_engine.specs.Sends.{HasRoom}
 use Rattle.rq_engine.proofs.AbortCalls.{turned_idle}
-use Rattle.rq_engine.proofs.Inverses.{few_writes}
-use Rattle.rq_engine.proofs.Leveled.{begins_planned, never_failed, plain_memory, start_answered, start_refused}
+use Rattle.rq_engine.proofs.Leveled.{begins_planned, few_writes, never_failed, plain_memory, start_answered, start_refused}
 use Rattle.rq_engine.proofs.Opened.{state_is}
 use Rattle.rq_engine.proofs.SendCalls.{has_room}
 use Rattle.rq_engine.proofs.engine.Engine.start_inverse.Goals as goal
@@ -35,11 +34,10 @@ launch-requires-clause-ready g c = subst (λ (x : State). HasNothingUnderWay x c
 pub launch-requires-clause-fits : goal.launch-requires-clause-fits
 launch-requires-clause-fits g c =
     let s = c.args.self.now.state in
-    let p : IsPlanBack (known_part s) c.args.done.now.deed c.in-Ok.plan = (c.in-Ok.ensures.planned c.args.done.now.deed (ap deed_back c.op_end_of.ensures ∙ c.requires.kept.reads) c.requires.kept.sender).plan in
     let kept = subst (λ (x : State). IsDoneConsistent x.sizes c.args.done.now) (sym (state_is c.in-Ok.ensures.same)) c.requires.kept in
     record {
       made = refl;
-      slots = subst (λ (x : State). AreSlotWrites x.sizes c.in-Ok.plan.writes.items) (sym (state_is c.in-Ok.ensures.same)) p.slots;
+      slots = subst (λ (x : State). AreSlotWrites x.sizes c.in-Ok.plan.writes.items) (sym (state_is c.in-Ok.ensures.same)) c.in-Ok.ensures.lawful.slots;
       sender = kept.sender;
       fits = kept.lsn;
     }
@@ -49,7 +47,7 @@ launch-requires-clause-log g c =
     let s = c.args.self.now.state in
     let p : IsPlanBack (known_part s) c.args.done.now.deed c.in-Ok.plan = (c.in-Ok.ensures.planned c.args.done.now.deed (ap deed_back c.op_end_of.ensures ∙ c.requires.kept.reads) c.requires.kept.sender).plan in
     subst (λ (x : State). HasRoom x c.in-Ok.plan.writes.items) (sym (state_is c.in-Ok.ensures.same))
-    (has_room s c.in-Ok.plan.writes.items (undo_cost (Some (op_done c.args.done.now))) c.requires.log (few_writes s.sizes (slots_in s.sizes s.images) c.in-Ok.plan.writes.items c.args.done.now.deed p.follows.0))
+    (has_room s c.in-Ok.plan.writes.items (undo_cost (Some (op_done c.args.done.now))) c.requires.log (few_writes s.sizes (slots_in s.sizes s.images) c.in-Ok.plan.writes.items c.args.done.now.deed c.in-Ok.ensures.lawful.count p.follows.0))
 
 pub returns-in-Ok-clause-started : goal.returns-in-Ok-clause-started
 returns-in-Ok-clause-started g c =
@@ -60,7 +58,7 @@ returns-in-Ok-clause-started g c =
     start_answered s (Undo f.deed) (HasTurnedBack s c.args.txn c.args.number f c.launch.new.self.state) c.launch.result is.free
     (λ begun. record {
       writes = c.in-Ok.plan.writes.items;
-      planned = record { planned = p.follows.0; slots = p.slots; free = p.follows.1; lowest = p.lowest };
+      planned = record { planned = p.follows.0; slots = c.in-Ok.ensures.lawful.slots; free = p.follows.1; lowest = p.lowest };
       state = begun ∙ ap (λ (x : State). record x { rows = change_row c.args.txn (row_started (record { number = c.args.number; writes = c.in-Ok.plan.writes.items; made = 0; aim = Undoing f.lsn f.deed })) x.rows }) (state_is c.in-Ok.ensures.same);
     })
     c.launch.ensures.launched c.launch.ensures.refusal

@@ -1,17 +1,18 @@
-use Rattle.std.proofs.Common.{◌≡◌, refl, sym, ◌∙◌, ap, subst, true}
+use Rattle.std.proofs.Common.{◌≡◌, ℕ, refl, sym, ◌∙◌, ap, subst, true}
 use Rattle.rq_model.specs.Vocabulary.{is_some}
+use Rattle.rq_views.specs.InStore.{IsDeedOf}
 use Rattle.rq_txn.specs.Rows.{change_row, row_started}
 use Rattle.rq_groups.specs.Sides.{is_free_end, with_end}
 use Rattle.rq_store.specs.State.{State}
-use Rattle.rq_planner.specs.Answered.{IsPlanOf}
 use Rattle.rq_planner.specs.Asked.{Task}
 use Rattle.rq_planner.specs.Asked.Asked.{Do}
+use Rattle.rq_planner.specs.Lawful.{IsLawfulPlan}
 use Rattle.rq_planner.proofs.Asking.{asked_of}
 use Rattle.rq_engine.specs.Answers.{HasNothingUnderWay}
 use Rattle.rq_engine.specs.Earlier.{on}
-use Rattle.rq_engine.specs.Plans.{FitsPlan, HasStarted, IsWithin, known_part, planned_of, under_plan}
+use Rattle.rq_engine.specs.Plans.{HasStarted, IsWithin, planned_of, under_plan}
 use Rattle.rq_engine.specs.Sends.{HasRoom}
-use Rattle.rq_engine.proofs.Leveled.{deed_plan, never_failed, plain_memory, plan_room, some_task, start_answered, start_refused, tells_deed, within}
+use Rattle.rq_engine.proofs.Leveled.{deed_inside, deed_plan, never_failed, plain_memory, plan_room, some_task, start_answered, start_refused, within}
 use Rattle.rq_engine.proofs.Opened.{state_is}
 use Rattle.rq_engine.proofs.engine.Engine.start_planned.Goals as goal
 
@@ -24,24 +25,27 @@ start-requires-clause-ready g c = subst (λ (x : State). HasNothingUnderWay x c.
 pub start-requires-clause-free : goal.start-requires-clause-free
 start-requires-clause-free g c = subst (λ (x : State). is_free_end c.args.txn c.args.end x.ends ≡ true) (sym (state_is c.in-Ok.ensures.same)) c.requires.may.may.free
 
-pub start-requires-clause-told : goal.start-requires-clause-told
-start-requires-clause-told g c =
-    let p : IsPlanOf (known_part c.args.self.now.state) c.requires.may.task c.in-Ok.plan = (c.in-Ok.ensures.planned c.requires.may.task c.requires.may.is (within c.args.self.now.state.sizes c.requires.may.task c.requires.may.may.inside)).plan in
-    tells_deed c.args.self.now.state c.requires.may.task c.in-Ok.plan p c.level.result (c.level.ensures ∙ asked_of c.args.op.now.level c.args.op.now.bytes c.requires.may.task c.requires.may.is)
+pub start-requires-clause-lawful : goal.start-requires-clause-lawful
+start-requires-clause-lawful g c =
+    subst (λ (x : State). IsLawfulPlan x.sizes c.level.result c.in-Ok.plan) (sym (state_is c.in-Ok.ensures.same))
+    (subst (λ (n : ℕ). IsLawfulPlan c.args.self.now.state.sizes n c.in-Ok.plan) (sym c.level.ensures) c.in-Ok.ensures.lawful)
 
-pub start-requires-clause-fits : goal.start-requires-clause-fits
-start-requires-clause-fits g c =
+pub start-requires-clause-inside : goal.start-requires-clause-inside
+start-requires-clause-inside g c =
     let s = c.args.self.now.state in
-    let p : IsPlanOf (known_part s) c.requires.may.task c.in-Ok.plan = (c.in-Ok.ensures.planned c.requires.may.task c.requires.may.is (within c.args.self.now.state.sizes c.requires.may.task c.requires.may.may.inside)).plan in
-    subst (λ (x : State). FitsPlan x.sizes (planned_of c.level.result c.in-Ok.plan)) (sym (state_is c.in-Ok.ensures.same)) (deed_plan s c.requires.may.task c.in-Ok.plan p c.level.result (c.level.ensures ∙ asked_of c.args.op.now.level c.args.op.now.bytes c.requires.may.task c.requires.may.is) c.requires.may.may.inside).fits
+    let d = c.requires.may.task in
+    let p = (c.in-Ok.ensures.planned d c.requires.may.is (within s.sizes d c.requires.may.may.inside)).plan in
+    subst (λ (x : State). IsDeedOf x.sizes (planned_of c.level.result c.in-Ok.plan).deed) (sym (state_is c.in-Ok.ensures.same))
+    (deed_inside s d c.in-Ok.plan p c.level.result (c.level.ensures ∙ asked_of c.args.op.now.level c.args.op.now.bytes d c.requires.may.is) c.requires.may.may.inside)
 
 pub start-requires-clause-log : goal.start-requires-clause-log
 start-requires-clause-log g c =
     let s = c.args.self.now.state in
     let d = c.requires.may.task in
-    let p : IsPlanOf (known_part s) d c.in-Ok.plan = (c.in-Ok.ensures.planned c.requires.may.task c.requires.may.is (within c.args.self.now.state.sizes c.requires.may.task c.requires.may.may.inside)).plan in
+    let p = (c.in-Ok.ensures.planned d c.requires.may.is (within s.sizes d c.requires.may.may.inside)).plan in
+    let lawful : IsLawfulPlan s.sizes c.level.result c.in-Ok.plan = subst (λ (n : ℕ). IsLawfulPlan s.sizes n c.in-Ok.plan) (sym c.level.ensures) c.in-Ok.ensures.lawful in
     subst (λ (x : State). HasRoom x c.in-Ok.plan.writes.items) (sym (state_is c.in-Ok.ensures.same))
-    (plan_room s d (planned_of c.level.result c.in-Ok.plan) c.requires.may.may.inside c.requires.may.may.log (deed_plan s d c.in-Ok.plan p c.level.result (c.level.ensures ∙ asked_of c.args.op.now.level c.args.op.now.bytes c.requires.may.task c.requires.may.is) c.requires.may.may.inside))
+    (plan_room s d (planned_of c.level.result c.in-Ok.plan) c.requires.may.may.inside c.requires.may.may.log (deed_plan s d c.in-Ok.plan p c.level.result (c.level.ensures ∙ asked_of c.args.op.now.level c.args.op.now.bytes d c.requires.may.is) lawful))
 
 pub returns-in-Ok-clause-started : goal.returns-in-Ok-clause-started
 returns-in-Ok-clause-started g c d e =
@@ -49,10 +53,11 @@ returns-in-Ok-clause-started g c d e =
     let plan = c.in-Ok.plan in
     let inside : IsWithin s.sizes d = subst (λ (x : Task). IsWithin s.sizes x) (some_task c.requires.may.task d (sym c.requires.may.is ∙ e)) c.requires.may.may.inside in
     let is = c.in-Ok.ensures.planned d e (within s.sizes d inside) in
+    let lawful : IsLawfulPlan s.sizes c.level.result plan = subst (λ (n : ℕ). IsLawfulPlan s.sizes n plan) (sym c.level.ensures) c.in-Ok.ensures.lawful in
     start_answered s (Do d) (HasStarted s c.args.txn c.args.number c.args.end d c.start.new.self.state) c.start.result is.free
     (λ begun. record {
       plan = planned_of c.level.result plan;
-      planned = deed_plan s d plan is.plan c.level.result (c.level.ensures ∙ asked_of c.args.op.now.level c.args.op.now.bytes d e) inside;
+      planned = deed_plan s d plan is.plan c.level.result (c.level.ensures ∙ asked_of c.args.op.now.level c.args.op.now.bytes d e) lawful;
       state = begun ∙ ap (λ (x : State). record x { rows = change_row c.args.txn (row_started (under_plan c.args.number (planned_of c.level.result plan))) x.rows; ends = with_end c.args.txn c.args.end x.ends }) (state_is c.in-Ok.ensures.same);
     })
     c.start.ensures.started c.start.ensures.refusal
