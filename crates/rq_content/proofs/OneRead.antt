@@ -4,7 +4,6 @@ use Rattle.std.specs.Option.{unwrap_or}
 use Rattle.std.proofs.lemmas.List.{map-append, reverse-append}
 use Rattle.rq_model.specs.declared.message.Message.{Message}
 use Rattle.rq_model.specs.declared.refusal.Refusal.{Refusal}
-use Rattle.rq_model.specs.declared.refusal.Refusal.TheVariants.{NoMemory}
 use Rattle.rq_model.specs.History.{Group}
 use Rattle.rq_model.specs.Tests.{below}
 use Rattle.rq_page.specs.declared.directory.Directory.{Directory}
@@ -14,7 +13,7 @@ use Rattle.rq_views.specs.Chain.{Cells}
 use Rattle.rq_views.specs.Stored.{slots_in}
 use Rattle.rq_txn.specs.Rows.{Row}
 use Rattle.rq_content.specs.declared.GroupContent.{GroupContent}
-use Rattle.rq_content.specs.Read.{Before, start, without_all, without_oldest, without_rows, or_else, met, cells_in, directory_of, shown_group, read_directory, read_before, read_group, group_of, damaged_for, IsBroken, WalkStops, StopsFor}
+use Rattle.rq_content.specs.Read.{Before, start, without_all, without_oldest, without_rows, or_else, met, cells_in, directory_of, shown_group, read_directory, read_before, read_group, group_of, IsBroken, IsShort}
 
 pub or_else_is : (o : Option ℕ) (n : ℕ) → unwrap_or o n ≡ or_else o n
 or_else_is None n = refl
@@ -71,18 +70,13 @@ abbrev Short : Cells → ℕ → Directory → Before → Type 0
 Short m s d b = length (met m s d.head (b.sent - d.received)) < b.sent - d.received
 
 pub broken_is : (z : Sizes) (images : List (List ℕ)) (rows : List Row) (s : ℕ) (d : Directory) (b : Before) (count : ℕ) (r : Refusal) → Has z images rows s d b → s < sender_count z → count ≡ b.sent - d.received
-    → (r ≡ damaged_for s) × (length (met (cells_in z images) s d.head count) < count) → IsBroken z images rows r
+    → IsShort (cells_in z images) s d.head count r → IsBroken z images rows r
 broken_is z images rows s d b count r h lt n w = record {
   sender = s;
   below = lt;
   page = w.0;
   short = read_is z images rows s d b (Short (cells_in z images) s) h (subst (λ k. length (met (cells_in z images) s d.head k) < k) n w.1);
 }
-
-pub stops_for : (z : Sizes) (images : List (List ℕ)) (rows : List Row) (s : ℕ) (d : Directory) (b : Before) (count : ℕ) (r : Refusal) → Has z images rows s d b → s < sender_count z → count ≡ b.sent - d.received
-    → WalkStops (cells_in z images) s d.head count r → StopsFor z images rows r
-stops_for z images rows s d b count NoMemory h lt n w = tt
-stops_for z images rows s d b count r h lt n w = broken_is z images rows s d b count r h lt n w
 
 -- one more sender is read
 pub groups_more : (f : ℕ → Group) (n : ℕ) (gs hs : List GroupContent) (g : GroupContent) → map group_of gs ≡ map f (below n) → hs ≡ gs ++ g ∷ [] → group_of g ≡ f n → map group_of hs ≡ map f (below (n + 1))

@@ -10,8 +10,10 @@ use Rattle.std.proofs.lemmas.List.{length-append, length-map, length-drop, map-a
 use Rattle.rq_model.specs.declared.message.Message.{Message}
 use Rattle.rq_model.specs.declared.txn.Txn.{Txn}
 use Rattle.rq_model.specs.declared.refusal.Refusal.{Refusal}
-use Rattle.rq_model.specs.declared.refusal.Refusal.TheVariants.{NoMemory}
+use Rattle.rq_model.specs.declared.refusal.Refusal.TheVariants.{NoMemory, DiskRead, Damaged}
 use Rattle.rq_model.specs.Tests.{below}
+use Rattle.rq_disk.specs.declared.device.PageDevice.{Ghosts}
+use Rattle.rq_pool.specs.Pooled.{Pooled}
 use Rattle.rq_model.specs.Vocabulary.{In, same_txn, sent_for, taken_from}
 use Rattle.rq_model.specs.History.{Group}
 use Rattle.rq_model.specs.Ledger.{group_in}
@@ -44,7 +46,7 @@ use Rattle.rq_sound.specs.Sound.{IsSound}
 use Rattle.rq_sound.proofs.Contracts.{shows}
 use Rattle.rq_sound.proofs.Groups.{none_latched}
 use Rattle.rq_content.specs.declared.GroupContent.{GroupContent}
-use Rattle.rq_content.specs.Read.{group_of, IsBroken, StopsFor, IsNoMemory, Before, start, without_all, without_rows, or_else, met, cells_in, shown_group, read_group}
+use Rattle.rq_content.specs.Read.{group_of, IsBroken, IsNoDamage, StopsFor, Before, start, without_all, without_rows, or_else, met, cells_in, shown_group, read_group}
 use Rattle.rq_content.proofs.Walks.{linked_over, met_linked}
 use Rattle.rq_content.proofs.LeftOut.{own, own_taken, SameSends, sends_same, sends_through, respects, quiet_sends, quiet_takes, closes, closes_is, closed_before, own_left, first_tag, AreFirst, takes_first}
 use Rattle.rq_content.proofs.OneRead.{Has, fields_are, read_is}
@@ -279,19 +281,17 @@ pub content_is : (s : State) (k : IsSound s) (z : Sizes) (images : List (List �
 content_is s k z images rows e1 e2 e3 idle r h =
     all_read s k idle r (subst (λ z. Read z s.images s.rows r) (sym e1) (subst (λ i. Read z i s.rows r) (sym e2) (subst (λ l. Read z images l r) (sym e3) h)))
 
-no_stop : (s : State) (k : IsSound s) → any_under s.rows ≡ false → (r : Refusal) → StopsFor s.sizes s.images s.rows r → IsNoMemory r
-no_stop s k e NoMemory h = refl
-no_stop s k e r h = absurd (none_broken s k e r h)
+module _ {P : Type 0} (g : Ghosts P) (s : State) (k : IsSound s) (old new : Pooled P) (rows : List Row) (sizes : s.sizes ≡ old.sizes) (images : s.images ≡ old.images) (same : s.rows ≡ rows) (idle : any_under s.rows ≡ false) (honest : g.honest new.device) where
+  none_damaged : (r : Refusal) → IsBroken old.sizes old.images rows r → ⊥
+  none_damaged r b = none_broken s k idle r (subst (λ z. IsBroken z s.images s.rows r) (sym sizes) (subst (λ i. IsBroken old.sizes i s.rows r) (sym images) (subst (λ l. IsBroken old.sizes old.images l r) (sym same) b)))
 
-abbrev Stops : Sizes → List (List ℕ) → List Row → Result (Vec GroupContent) Refusal → Type 0
-Stops z images rows result = IfErr result (λ refusal. StopsFor z images rows refusal)
+  no_stop : (r : Refusal) → StopsFor g rows old r new → IsNoDamage r
+  no_stop NoMemory h = inl refl
+  no_stop DiskRead h = inr refl
+  no_stop (Damaged d) h = absurd (none_damaged (Damaged d) (h.0 honest))
+  no_stop _ h = absurd h
 
-no_stops : (s : State) (k : IsSound s) → any_under s.rows ≡ false → (r : Result (Vec GroupContent) Refusal) → Stops s.sizes s.images s.rows r → IfErr r (λ refusal. IsNoMemory refusal)
-no_stops s k e (Ok groups) h = tt
-no_stops s k e (Err r) h = no_stop s k e r h
-
--- and nothing but memory can be wanting
-pub memory_alone : (s : State) (k : IsSound s) (z : Sizes) (images : List (List ℕ)) (rows : List Row) → s.sizes ≡ z → s.images ≡ images → s.rows ≡ rows → any_under s.rows ≡ false
-    → (r : Result (Vec GroupContent) Refusal) → Stops z images rows r → IfErr r (λ refusal. IsNoMemory refusal)
-memory_alone s k z images rows e1 e2 e3 idle r h =
-    no_stops s k idle r (subst (λ z. Stops z s.images s.rows r) (sym e1) (subst (λ i. Stops z i s.rows r) (sym e2) (subst (λ l. Stops z images l r) (sym e3) h)))
+  -- and no damage is met
+  pub none_met : (r : Result (Vec GroupContent) Refusal) → IfErr r (λ refusal. StopsFor g rows old refusal new) → IfErr r (λ refusal. IsNoDamage refusal)
+  none_met (Ok groups) h = tt
+  none_met (Err r) h = no_stop r h

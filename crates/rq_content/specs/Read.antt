@@ -1,13 +1,14 @@
 -- What is read of senders: from their slots, without what transactions that have not ended did.
-use Rattle.std.specs.Prelude.{◌≡◌, ℕ, zero, suc, ◌-◌, ◌/◌, ◌<◌, nat_eq, Bool, false, cond, List, [], ◌∷◌, ◌++◌, length, Option, Some, None}
+use Rattle.std.specs.Prelude.{◌≡◌, ◌⊎◌, ℕ, zero, suc, ◌+◌, ◌-◌, ◌/◌, ◌%◌, ◌^◌, ◌<◌, nat_eq, Bool, false, cond, List, [], ◌∷◌, ◌++◌, length, Option, Some, None}
 use Rattle.rq_model.specs.declared.message.Message.{Message}
 use Rattle.rq_model.specs.declared.record.Deed.{Deed}
 use Rattle.rq_model.specs.declared.record.Deed.TheVariants.{Append, UnlinkHead, Close, Mark}
 use Rattle.rq_model.specs.declared.refusal.Refusal.{Refusal}
-use Rattle.rq_model.specs.declared.refusal.Refusal.TheVariants.{NoMemory, Damaged}
+use Rattle.rq_model.specs.declared.refusal.Refusal.TheVariants.{NoMemory, DiskRead, Damaged}
 use Rattle.rq_model.specs.declared.refusal.Damage.TheVariants.{Page}
 use Rattle.rq_model.specs.Vocabulary.{client_group}
 use Rattle.rq_model.specs.History.{Group}
+use Rattle.rq_disk.specs.declared.device.PageDevice.{Ghosts}
 use Rattle.rq_page.specs.declared.cell.Cell.{Cell}
 use Rattle.rq_page.specs.declared.directory.Directory.{Directory}
 use Rattle.rq_page.specs.Directories.{new_directory}
@@ -17,6 +18,8 @@ use Rattle.rq_page.specs.Slots.Slot.{Free, Used, Sender, Client}
 use Rattle.rq_views.specs.Chain.{Cells}
 use Rattle.rq_views.specs.Log.{cells_of}
 use Rattle.rq_views.specs.Stored.{slots_in}
+use Rattle.rq_pool.specs.Pooled.{Pooled}
+use Rattle.rq_pool.specs.Fetching.{HasOutside}
 use Rattle.rq_txn.specs.declared.Finished.{Finished}
 use Rattle.rq_txn.specs.Rows.{Row}
 use Rattle.rq_content.specs.declared.GroupContent.{GroupContent}
@@ -135,14 +138,21 @@ read_group z images rows s = shown_group (cells_in z images) s (read_directory z
 abbrev pub damaged_for : ℕ → Refusal
 damaged_for s = Damaged (Page (directory_at s / 16))
 
--- the refusal is for memory
-abbrev pub IsNoMemory : Refusal → Type 0
-IsNoMemory r = r ≡ NoMemory
+-- no damage was met: memory was wanting, or a page could not be read
+abbrev pub IsNoDamage : Refusal → Type 0
+IsNoDamage r = (r ≡ NoMemory) ⊎ (r ≡ DiskRead)
 
--- why the messages of a chain were not had: memory, or there are fewer than n
-abbrev pub WalkStops : Cells → ℕ → ℕ → ℕ → Refusal → Type 0
-WalkStops m s at n NoMemory = Unit {0}
-WalkStops m s at n r = (r ≡ damaged_for s) × (length (met m s at n) < n)
+-- Why reading pages stopped, and how often their device has failed then. A read fails of a page alone that stands in no frame.
+-- Where damage is told, this is so of what was to be read, if the device is honest.
+abbrev pub ReadStops : {P : Type 0} → Ghosts P → (Refusal → Type 0) → Pooled P → Refusal → Pooled P → Type 0
+ReadStops g Broken old NoMemory new = g.faults new.device ≡ g.faults old.device
+ReadStops g Broken old DiskRead new = HasOutside old × (g.faults new.device ≡ (g.faults old.device + 1) % 2 ^ 64)
+ReadStops g Broken old (Damaged d) new = (g.honest new.device → Broken (Damaged d)) × (g.faults new.device ≡ g.faults old.device)
+ReadStops g Broken old _ new = ⊥
+
+-- a sender's chain has fewer cells than n, and the refusal names the page of its directory slot
+abbrev pub IsShort : Cells → ℕ → ℕ → ℕ → Refusal → Type 0
+IsShort m s at n r = (r ≡ damaged_for s) × (length (met m s at n) < n)
 
 -- a sender's chain has fewer cells than its directory slot says, and the refusal names the page of that slot
 pub record IsBroken (z : Sizes) (images : List (List ℕ)) (rows : List Row) (r : Refusal) : Type 0 where
@@ -153,7 +163,6 @@ pub record IsBroken (z : Sizes) (images : List (List ℕ)) (rows : List Row) (r 
       ((read_before z images rows sender).sent - (read_directory z images sender).received)) <
       (read_before z images rows sender).sent - (read_directory z images sender).received
 
--- why the content was not had
-abbrev pub StopsFor : Sizes → List (List ℕ) → List Row → Refusal → Type 0
-StopsFor z images rows NoMemory = Unit {0}
-StopsFor z images rows r = IsBroken z images rows r
+-- why the content was not had of pages without what these transactions did
+abbrev pub StopsFor : {P : Type 0} → Ghosts P → List Row → Pooled P → Refusal → Pooled P → Type 0
+StopsFor g rows old r new = ReadStops g (IsBroken old.sizes old.images rows) old r new

@@ -1,0 +1,52 @@
+-- Why reading pages stopped.
+use Rattle.std.proofs.Common.{◌≡◌, ℕ, ◌+◌, ◌%◌, ◌^◌, ◌<◌, List, Result, Ok, Err, IfErr, refl, sym, ap, subst, ◌∙◌, inl}
+use Rattle.std.proofs.lemmas.Bool.{false≢true}
+use Rattle.rq_model.specs.declared.refusal.Refusal.{Refusal}
+use Rattle.rq_model.specs.declared.refusal.Refusal.TheVariants.{NoMemory, DiskRead, Damaged}
+use Rattle.rq_model.specs.declared.refusal.Damage.TheVariants.{Page}
+use Rattle.rq_disk.specs.declared.device.PageDevice.{Ghosts}
+use Rattle.rq_page.specs.Sizes.{Sizes, page_count}
+use Rattle.rq_pool.specs.Held.{Held, IsFramed}
+use Rattle.rq_pool.specs.Pooled.{Pooled}
+use Rattle.rq_pool.specs.Fetching.{Fetches, HasOutside, MayHaveRead}
+use Rattle.rq_pool.proofs.Fetched.{still_read}
+use Rattle.rq_content.specs.Read.{damaged_for, ReadStops}
+
+module _ {P : Type 0} (g : Ghosts P) where
+  -- what is so of pages that were read was so before, where their device is honest
+  pub over_read : (B : Sizes → List (List ℕ) → Type 0) (old new : Pooled P) → MayHaveRead g old new → g.honest new.device → B new.sizes new.images → B old.sizes old.images
+  over_read B old new read h b = subst (λ (z : Sizes). B z old.images) (read.kept 0).sizes (subst (λ (i : List (List ℕ)). B new.sizes i) ((read.kept 0).images h) b)
+
+  -- a page could not be read
+  pub unread : {X : Type 0} (Broken : Refusal → Type 0) (page : ℕ) (e : Refusal) (old new : Pooled P) → page < page_count old.sizes → Fetches {X = X} g page old (Err e) new → ReadStops g Broken old e new
+  unread Broken page DiskRead old new lt f = (record { page = page; within = lt; outside = λ framed. absurd (false≢true (f.stood (inl framed)).0) }, f.refused)
+  unread Broken page (Damaged (Page n)) old new lt f = (λ h. absurd (f.refused.1 h), f.refused.2)
+  unread Broken page _ old new lt f = absurd f.refused
+
+  -- a chain was found broken
+  pub told_damaged : (Broken : Refusal → Type 0) (s : ℕ) (e : Refusal) (old new : Pooled P) → e ≡ damaged_for s → (g.honest new.device → Broken e) → g.faults new.device ≡ g.faults old.device → ReadStops g Broken old e new
+  told_damaged Broken s e old new is broken same = subst (λ (r : Refusal). ReadStops g Broken old r new) (sym is) (λ h. subst Broken is (broken h), same)
+
+  -- some pages were read, and then reading stopped
+  pub stopped_then : (Later Broken : Refusal → Type 0) (e : Refusal) (old mid new : Pooled P) → MayHaveRead g old mid → g.faults mid.device ≡ g.faults old.device → (g.honest new.device → (r : Refusal) → Later r → Broken r) → ReadStops g Later mid e new → ReadStops g Broken old e new
+  stopped_then Later Broken NoMemory old mid new read same over stops = stops ∙ same
+  stopped_then Later Broken DiskRead old mid new read same over stops = (
+    record {
+      page = stops.0.page;
+      within = subst (λ (z : Sizes). stops.0.page < page_count z) (read.kept 0).sizes stops.0.within;
+      outside = λ framed. stops.0.outside (subst (λ (f : List Held). IsFramed f stops.0.page) (sym read.frames) framed);
+    },
+    subst (λ (n : ℕ). g.faults new.device ≡ (n + 1) % 2 ^ 64) same stops.1,
+  )
+  stopped_then Later Broken (Damaged d) old mid new read same over stops = (λ h. over h (Damaged d) (stops.0 h), stops.1 ∙ same)
+  stopped_then Later Broken _ old mid new read same over stops = absurd stops
+
+  -- it stopped for a reason that is one of another kind too
+  pub stops_as : (Some Broken : Refusal → Type 0) (e : Refusal) (old new : Pooled P) → (g.honest new.device → (r : Refusal) → Some r → Broken r) → ReadStops g Some old e new → ReadStops g Broken old e new
+  stops_as Some Broken e old new over stops = stopped_then Some Broken e old old new (still_read g old) refl over stops
+
+  -- some pages were read, and then it is answered so
+  pub answered_then : {X : Type 0} (Later Broken : Refusal → Type 0) (r : Result X Refusal) (old mid new : Pooled P) → MayHaveRead g old mid → g.faults mid.device ≡ g.faults old.device → (g.honest new.device → (e : Refusal) → Later e → Broken e)
+      → IfErr r (λ e. ReadStops g Later mid e new) → IfErr r (λ e. ReadStops g Broken old e new)
+  answered_then Later Broken (Ok x) old mid new read same over stops = tt
+  answered_then Later Broken (Err e) old mid new read same over stops = stopped_then Later Broken e old mid new read same over stops
