@@ -11,6 +11,7 @@ use Rattle.rq_model.specs.declared.message.Message.{Message}
 use Rattle.rq_model.specs.declared.txn.Txn.{Txn}
 use Rattle.rq_model.specs.declared.refusal.Refusal.{Refusal}
 use Rattle.rq_model.specs.declared.refusal.Refusal.TheVariants.{NoMemory, DiskRead, Damaged}
+use Rattle.rq_model.specs.declared.refusal.Damage.TheVariants.{Page}
 use Rattle.rq_model.specs.Tests.{below}
 use Rattle.rq_disk.specs.declared.device.PageDevice.{Ghosts}
 use Rattle.rq_pool.specs.Pooled.{Pooled}
@@ -288,7 +289,7 @@ module _ {P : Type 0} (g : Ghosts P) (s : State) (k : IsSound s) (old new : Pool
   no_stop : (r : Refusal) → StopsFor g rows old r new → IsNoDamage r
   no_stop NoMemory h = inl refl
   no_stop DiskRead h = inr refl
-  no_stop (Damaged d) h = absurd (none_damaged (Damaged d) (h.0 honest))
+  no_stop (Damaged (Page n)) h = absurd (none_damaged (Damaged (Page n)) (h.1 honest))
   no_stop _ h = absurd h
 
   -- and no damage is met

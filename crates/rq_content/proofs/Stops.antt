@@ -1,14 +1,16 @@
 -- Why reading pages stopped.
-use Rattle.std.proofs.Common.{◌≡◌, ℕ, ◌+◌, ◌%◌, ◌^◌, ◌<◌, List, Result, Ok, Err, IfErr, refl, sym, ap, subst, ◌∙◌, inl}
+use Rattle.std.proofs.Common.{◌≡◌, ℕ, ◌+◌, ◌%◌, ◌^◌, ◌<◌, ◌≤◌, ◌/◌, List, Result, Ok, Err, IfErr, refl, sym, ap, subst, arith, ◌∙◌, inl}
 use Rattle.std.proofs.lemmas.Bool.{false≢true}
 use Rattle.rq_model.specs.declared.refusal.Refusal.{Refusal}
 use Rattle.rq_model.specs.declared.refusal.Refusal.TheVariants.{NoMemory, DiskRead, Damaged}
 use Rattle.rq_model.specs.declared.refusal.Damage.TheVariants.{Page}
+use Rattle.rq_disk.specs.Device.{PageAsk}
 use Rattle.rq_disk.specs.declared.device.PageDevice.{Ghosts}
-use Rattle.rq_page.specs.Sizes.{Sizes, page_count}
+use Rattle.rq_page.specs.Sizes.{Sizes, directory_at, page_count, sender_count}
+use Rattle.rq_page.proofs.Addresses.{senders_have_slots}
 use Rattle.rq_pool.specs.Held.{Held, IsFramed}
 use Rattle.rq_pool.specs.Pooled.{Pooled}
-use Rattle.rq_pool.specs.Fetching.{Fetches, HasOutside, MayHaveRead}
+use Rattle.rq_pool.specs.Fetching.{Fetches, HasFailed, HasOutside, MayHaveRead}
 use Rattle.rq_pool.proofs.Fetched.{still_read}
 use Rattle.rq_content.specs.Read.{damaged_for, ReadStops}
 
@@ -18,14 +20,25 @@ module _ {P : Type 0} (g : Ghosts P) where
   over_read B old new read h b = subst (λ (z : Sizes). B z old.images) (read.kept 0).sizes (subst (λ (i : List (List ℕ)). B new.sizes i) ((read.kept 0).images h) b)
 
   -- a page could not be read
-  pub unread : {X : Type 0} (Broken : Refusal → Type 0) (page : ℕ) (e : Refusal) (old new : Pooled P) → page < page_count old.sizes → Fetches {X = X} g page old (Err e) new → ReadStops g Broken old e new
-  unread Broken page DiskRead old new lt f = (record { page = page; within = lt; outside = λ framed. absurd (false≢true (f.stood (inl framed)).0) }, f.refused)
-  unread Broken page (Damaged (Page n)) old new lt f = (λ h. absurd (f.refused.1 h), f.refused.2)
-  unread Broken page _ old new lt f = absurd f.refused
+  pub unread : {X : Type 0} (Broken : Refusal → Type 0) (page : ℕ) (e : Refusal) (old new : Pooled P) → 1 ≤ page → page < page_count old.sizes → Fetches {X = X} g page old (Err e) new → ReadStops g Broken old e new
+  unread Broken page DiskRead old new low lt f = (record { page = page; behind = low; within = lt; outside = λ framed. absurd (false≢true (f.stood (inl framed)).0) }, f.refused)
+  unread Broken page (Damaged (Page n)) old new low lt f = (subst (λ (q : ℕ). q < page_count old.sizes) (sym f.refused.0) lt, λ h. absurd (f.refused.1 h), f.refused.2)
+  unread Broken page _ old new low lt f = absurd f.refused
 
   -- a chain was found broken
-  pub told_damaged : (Broken : Refusal → Type 0) (s : ℕ) (e : Refusal) (old new : Pooled P) → e ≡ damaged_for s → (g.honest new.device → Broken e) → g.faults new.device ≡ g.faults old.device → ReadStops g Broken old e new
-  told_damaged Broken s e old new is broken same = subst (λ (r : Refusal). ReadStops g Broken old r new) (sym is) (λ h. subst Broken is (broken h), same)
+  pub told_damaged : (Broken : Refusal → Type 0) (s : ℕ) (e : Refusal) (old new : Pooled P) → s < sender_count old.sizes → e ≡ damaged_for s → (g.honest new.device → Broken e) → g.faults new.device ≡ g.faults old.device → ReadStops g Broken old e new
+  told_damaged Broken s e old new lt is broken same =
+      let within : directory_at s / 16 < page_count old.sizes = (let below = (senders_have_slots old.sizes s lt).1 in omega (arith, below)) in
+      subst (λ (r : Refusal). ReadStops g Broken old r new) (sym is) (within, λ h. subst Broken is (broken h), same)
+
+  -- a device that had not failed has failed since
+  failed_then : {ask : PageAsk} (mid old new : P) → g.faults mid ≡ g.faults old → HasFailed g ask mid new → HasFailed g ask old new
+  failed_then mid old new same f = record {
+    once = subst (λ (n : ℕ). g.faults new ≡ (n + 1) % 2 ^ 64) same f.once;
+    before = f.before;
+    none = f.none ∙ same;
+    excused = f.excused;
+  }
 
   -- some pages were read, and then reading stopped
   pub stopped_then : (Later Broken : Refusal → Type 0) (e : Refusal) (old mid new : Pooled P) → MayHaveRead g old mid → g.faults mid.device ≡ g.faults old.device → (g.honest new.device → (r : Refusal) → Later r → Broken r) → ReadStops g Later mid e new → ReadStops g Broken old e new
@@ -33,12 +46,14 @@ module _ {P : Type 0} (g : Ghosts P) where
   stopped_then Later Broken DiskRead old mid new read same over stops = (
     record {
       page = stops.0.page;
+      behind = stops.0.behind;
       within = subst (λ (z : Sizes). stops.0.page < page_count z) (read.kept 0).sizes stops.0.within;
       outside = λ framed. stops.0.outside (subst (λ (f : List Held). IsFramed f stops.0.page) (sym read.frames) framed);
     },
-    subst (λ (n : ℕ). g.faults new.device ≡ (n + 1) % 2 ^ 64) same stops.1,
+    failed_then mid.device old.device new.device same stops.1,
   )
-  stopped_then Later Broken (Damaged d) old mid new read same over stops = (λ h. over h (Damaged d) (stops.0 h), stops.1 ∙ same)
+  stopped_then Later Broken (Damaged (Page n)) old mid new read same over stops =
+      (subst (λ (z : Sizes). n < page_count z) (read.kept 0).sizes stops.0, λ h. over h (Damaged (Page n)) (stops.1 h), stops.2 ∙ same)
   stopped_then Later Broken _ old mid new read same over stops = absurd stops
 
   -- it stopped for a reason that is one of another kind too

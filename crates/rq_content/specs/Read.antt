@@ -8,18 +8,19 @@ use Rattle.rq_model.specs.declared.refusal.Refusal.TheVariants.{NoMemory, DiskRe
 use Rattle.rq_model.specs.declared.refusal.Damage.TheVariants.{Page}
 use Rattle.rq_model.specs.Vocabulary.{client_group}
 use Rattle.rq_model.specs.History.{Group}
+use Rattle.rq_disk.specs.Device.PageAsk.{Reads}
 use Rattle.rq_disk.specs.declared.device.PageDevice.{Ghosts}
 use Rattle.rq_page.specs.declared.cell.Cell.{Cell}
 use Rattle.rq_page.specs.declared.directory.Directory.{Directory}
 use Rattle.rq_page.specs.Directories.{new_directory}
-use Rattle.rq_page.specs.Sizes.{Sizes, directory_at, sender_count}
+use Rattle.rq_page.specs.Sizes.{Sizes, directory_at, page_count, sender_count}
 use Rattle.rq_page.specs.Slots.{Slot}
 use Rattle.rq_page.specs.Slots.Slot.{Free, Used, Sender, Client}
 use Rattle.rq_views.specs.Chain.{Cells}
 use Rattle.rq_views.specs.Log.{cells_of}
 use Rattle.rq_views.specs.Stored.{slots_in}
 use Rattle.rq_pool.specs.Pooled.{Pooled}
-use Rattle.rq_pool.specs.Fetching.{HasOutside}
+use Rattle.rq_pool.specs.Fetching.{HasFailed, HasOutside}
 use Rattle.rq_txn.specs.declared.Finished.{Finished}
 use Rattle.rq_txn.specs.Rows.{Row}
 use Rattle.rq_content.specs.declared.GroupContent.{GroupContent}
@@ -142,12 +143,13 @@ damaged_for s = Damaged (Page (directory_at s / 16))
 abbrev pub IsNoDamage : Refusal → Type 0
 IsNoDamage r = (r ≡ NoMemory) ⊎ (r ≡ DiskRead)
 
--- Why reading pages stopped, and how often their device has failed then. A read fails of a page alone that stands in no frame.
--- Where damage is told, this is so of what was to be read, if the device is honest.
-abbrev pub ReadStops : {P : Type 0} → Ghosts P → (Refusal → Type 0) → Pooled P → Refusal → Pooled P → Type 0
+-- Why reading pages stopped. Their device failed in a read of a page that stands in no frame, or it did not fail. Damage is told of
+-- a page of the store, and is what was to be read (`Broken`), if the device is honest.
+abbrev pub ReadStops : {P : Type 0} → Ghosts P → (Broken : Refusal → Type 0) → Pooled P → Refusal → Pooled P → Type 0
 ReadStops g Broken old NoMemory new = g.faults new.device ≡ g.faults old.device
-ReadStops g Broken old DiskRead new = HasOutside old × (g.faults new.device ≡ (g.faults old.device + 1) % 2 ^ 64)
-ReadStops g Broken old (Damaged d) new = (g.honest new.device → Broken (Damaged d)) × (g.faults new.device ≡ g.faults old.device)
+ReadStops g Broken old DiskRead new = (out : HasOutside old) × HasFailed g (Reads out.page) old.device new.device
+ReadStops g Broken old (Damaged (Page n)) new = (n < page_count old.sizes)
+    × (g.honest new.device → Broken (Damaged (Page n))) × (g.faults new.device ≡ g.faults old.device)
 ReadStops g Broken old _ new = ⊥
 
 -- a sender's chain has fewer cells than n, and the refusal names the page of its directory slot

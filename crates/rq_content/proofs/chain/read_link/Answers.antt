@@ -1,4 +1,4 @@
-use Rattle.std.proofs.Common.{◌≡◌, ◌<◌, ◌/◌, Some, None, rules, subst, sym, arith}
+use Rattle.std.proofs.Common.{◌≡◌, ◌<◌, ◌≤◌, ◌/◌, Some, None, rules, subst, sym, arith}
 use Rattle.rq_page.specs.Sizes.{IsCellAddress, IsLink, Sizes, page_count, sender_count}
 use Rattle.rq_content.specs.Read.{cells_in, damaged_for}
 use Rattle.rq_content.proofs.Stops.{over_read, told_damaged, unread}
@@ -21,7 +21,7 @@ returns-in-Ok-Some-clause-next g c =
 pub returns-in-Ok-None-clause-refused : goal.returns-in-Ok-None-clause-refused
 returns-in-Ok-None-clause-refused g c =
     let held : cells_in c.read_cell.new.self.sizes c.read_cell.new.self.images c.args.at ≡ None = search rules in
-    told_damaged g.P.PageDevice (λ r. (r ≡ damaged_for c.args.sender) × (cells_in c.args.pages.now.sizes c.args.pages.now.images c.args.at ≡ None)) c.args.sender c.damaged-in-Ok-None.result c.args.pages.now c.read_cell.new.self c.damaged-in-Ok-None.ensures
+    told_damaged g.P.PageDevice (λ r. (r ≡ damaged_for c.args.sender) × (cells_in c.args.pages.now.sizes c.args.pages.now.images c.args.at ≡ None)) c.args.sender c.damaged-in-Ok-None.result c.args.pages.now c.read_cell.new.self c.requires.sender c.damaged-in-Ok-None.ensures
     (λ h. (c.damaged-in-Ok-None.ensures, over_read g.P.PageDevice (λ z images. cells_in z images c.args.at ≡ None) c.args.pages.now c.read_cell.new.self c.read_cell.ensures.fetched.read h held))
     c.in-Ok-None.ensures.fetched.counted
 
@@ -29,5 +29,6 @@ pub returns-in-Err-clause-refused : goal.returns-in-Err-clause-refused
 returns-in-Err-clause-refused g c =
     let cell : IsCellAddress c.args.pages.now.sizes c.args.at = search rules in
     let below = cell.below in
+    let behind : 1 ≤ c.args.at / 16 = (let above = cell.above in omega (arith, above)) in
     let within : c.args.at / 16 < page_count c.args.pages.now.sizes = omega (arith, below) in
-    unread g.P.PageDevice (λ r. (r ≡ damaged_for c.args.sender) × (cells_in c.args.pages.now.sizes c.args.pages.now.images c.args.at ≡ None)) (c.args.at / 16) c.in-Err.refusal c.args.pages.now c.read_cell.new.self within c.in-Err.ensures.fetched
+    unread g.P.PageDevice (λ r. (r ≡ damaged_for c.args.sender) × (cells_in c.args.pages.now.sizes c.args.pages.now.images c.args.at ≡ None)) (c.args.at / 16) c.in-Err.refusal c.args.pages.now c.read_cell.new.self behind within c.in-Err.ensures.fetched
