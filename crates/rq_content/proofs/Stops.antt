@@ -1,5 +1,5 @@
 -- Why reading pages stopped.
-use Rattle.std.proofs.Common.{◌≡◌, ℕ, ◌+◌, ◌%◌, ◌^◌, ◌<◌, ◌≤◌, ◌/◌, List, Result, Ok, Err, IfErr, refl, sym, ap, subst, arith, ◌∙◌, inl}
+use Rattle.std.proofs.Common.{◌≡◌, ℕ, ◌+◌, ◌%◌, ◌^◌, ◌<◌, ◌≤◌, ◌/◌, List, Result, Ok, Err, IfErr, refl, sym, subst, arith, ◌∙◌, inl}
 use Rattle.std.proofs.lemmas.Bool.{false≢true}
 use Rattle.rq_model.specs.declared.refusal.Refusal.{Refusal}
 use Rattle.rq_model.specs.declared.refusal.Refusal.TheVariants.{NoMemory, DiskRead, Damaged}
@@ -10,7 +10,7 @@ use Rattle.rq_page.specs.Sizes.{Sizes, directory_at, page_count, sender_count}
 use Rattle.rq_page.proofs.Addresses.{senders_have_slots}
 use Rattle.rq_pool.specs.Held.{Held, IsFramed}
 use Rattle.rq_pool.specs.Pooled.{Pooled}
-use Rattle.rq_pool.specs.Fetching.{Fetches, HasFailed, HasOutside, MayHaveRead}
+use Rattle.rq_pool.specs.Fetching.{Fetches, HasFailed, MayHaveRead}
 use Rattle.rq_pool.proofs.Fetched.{still_read}
 use Rattle.rq_content.specs.Read.{damaged_for, ReadStops}
 

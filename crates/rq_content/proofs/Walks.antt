@@ -1,5 +1,5 @@
 -- Walks along chains of cells.
-use Rattle.std.proofs.Common.{◌≡◌, ℕ, zero, suc, ◌+◌, ◌-◌, ◌<◌, ◌≤◌, List, [], ◌∷◌, ◌++◌, length, map, take, refl, sym, ◌∙◌, ap, subst, append_assoc, arith, Some, None}
+use Rattle.std.proofs.Common.{◌≡◌, ℕ, zero, suc, ◌+◌, ◌-◌, ◌<◌, ◌≤◌, List, [], ◌∷◌, ◌++◌, length, map, take, refl, sym, ◌∙◌, ap, append_assoc, arith, Some, None}
 use Rattle.std.proofs.lemmas.List.{append-nil, length-append}
 use Rattle.rq_model.specs.declared.message.Message.{Message}
 use Rattle.rq_page.specs.declared.cell.Cell.{Cell}

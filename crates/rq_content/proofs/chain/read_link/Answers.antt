@@ -2,7 +2,6 @@ use Rattle.std.proofs.Common.{◌≡◌, ◌<◌, ◌≤◌, ◌/◌, Some, None
 use Rattle.rq_page.specs.Sizes.{IsCellAddress, IsLink, Sizes, page_count, sender_count}
 use Rattle.rq_content.specs.Read.{cells_in, damaged_for}
 use Rattle.rq_content.proofs.Stops.{over_read, told_damaged, unread}
-use Rattle.rq_content.proofs.Walks.{none_at}
 use Rattle.rq_content.proofs.chain.read_link.Goals as goal
 
 pub damaged-requires-in-Ok-None : goal.damaged-requires-in-Ok-None
