@@ -42,7 +42,7 @@ module _ {P L : Type 0} (old new : OpenStore P L) where
   failed_leaves e h = failed_by (reads_pages (call_of e)) (writes_out (call_of e)) (call_of e) h
 
   -- one that starts an operation has perhaps read pages
-  pub start_leaves : (e : Event) (c : Call) (r : Refusal) → call_of e ≡ c → reads_pages c ≡ true → RefusedButRead c old r new → RefusalLeaves old e (reply.Refused r) new
+  start_leaves : (e : Event) (c : Call) (r : Refusal) → call_of e ≡ c → reads_pages c ≡ true → RefusedButRead c old r new → RefusalLeaves old e (reply.Refused r) new
   start_leaves e c r is reads left = rw (is, reads) left
 
   pub begun_leaves : (e : Event) (c : Call) (x : Result (Option Sub) Refusal) (y : Reply) → call_of e ≡ c → reads_pages c ≡ true → IfErr x (λ r. RefusedButRead c old r new) → y ≡ begun_reply x → RefusalLeaves old e y new

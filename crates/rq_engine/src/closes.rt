@@ -1,8 +1,8 @@
 //! Closes.
-ghost use Rattle.std.specs.Prelude.{◌≡◌, ◌≢◌, ◌↔◌, Err, ◌<◌, IfOk, IfErr, OnOk, true, false, List};
+ghost use Rattle.std.specs.Prelude.{◌≡◌, ◌≢◌, ◌↔◌, Err, ◌<◌, IfOk, IfErr, IsTrue, OnOk, true, false, List};
 ghost use Rattle.rq_model.specs.History.Call.{Start_close};
 ghost use Rattle.rq_model.specs.Replay.Reply.{Gave_sub};
-ghost use Rattle.rq_model.specs.Tests.{NoneHolds, Passes, log_full, ready_tests};
+ghost use Rattle.rq_model.specs.Tests.{NoneHolds, Passes, log_full, ready_tests, without_pages};
 ghost use Rattle.rq_page.specs.Sizes.{sender_count};
 ghost use Rattle.rq_views.specs.Items.{items};
 ghost use Rattle.rq_views.specs.Legal.{view};
@@ -68,6 +68,7 @@ impl<P: PageDevice, L: LogDevice, B: Level> Engine<P, L, B> {
         // What was tested.
         ensures plain { IfErr result (λ r. r ≢ Refusal.Failed) }
         ensures unlatched { IfErr result (λ r. OnLatched ⊥ r) }
+        ensures tests { IfErr result (λ r. IsTrue (without_pages r)) }
         ensures leaves { NoneHolds (ready_tests (ledger_of self.now.state) txn false)
             → IfErr result (λ r. RefusedButRead (Start_close txn sender) self.now r self.now) }
         ensures tested { NoneHolds (ready_tests (ledger_of self.now.state) txn false)

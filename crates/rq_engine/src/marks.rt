@@ -1,8 +1,8 @@
 //! Marks.
-ghost use Rattle.std.specs.Prelude.{ℕ, ◌≡◌, ◌≢◌, ◌↔◌, Err, IfOk, IfErr, OnOk, true, false, List};
+ghost use Rattle.std.specs.Prelude.{ℕ, ◌≡◌, ◌≢◌, ◌↔◌, Err, IfOk, IfErr, IsTrue, OnOk, true, false, List};
 ghost use Rattle.rq_model.specs.History.Call.{Start_mark};
 ghost use Rattle.rq_model.specs.Replay.Reply.{Gave_sub};
-ghost use Rattle.rq_model.specs.Tests.{NoneHolds, Passes, log_full, ready_tests};
+ghost use Rattle.rq_model.specs.Tests.{NoneHolds, Passes, log_full, ready_tests, without_pages};
 ghost use Rattle.rq_model.specs.Vocabulary.{client_group};
 ghost use Rattle.rq_groups.specs.Ends.{is_free_for};
 ghost use Rattle.rq_planner.specs.Asked.{Tag};
@@ -68,6 +68,7 @@ impl<P: PageDevice, L: LogDevice, B: Level> Engine<P, L, B> {
         // What was tested.
         ensures plain { IfErr result (λ r. r ≢ Refusal.Failed) }
         ensures unlatched { IfErr result (λ r. OnLatched ⊥ r) }
+        ensures tests { IfErr result (λ r. IsTrue (without_pages r)) }
         ensures leaves { (tag : ℕ) → NoneHolds (ready_tests (ledger_of self.now.state) txn false)
             → IfErr result (λ r. RefusedButRead (Start_mark txn client tag) self.now r self.now) }
         ensures tested { (tag : ℕ) → NoneHolds (ready_tests (ledger_of self.now.state) txn false)

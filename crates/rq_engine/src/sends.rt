@@ -1,8 +1,8 @@
 //! Sends.
-ghost use Rattle.std.specs.Prelude.{◌≡◌, ◌≢◌, ◌↔◌, Err, ◌<◌, ◌≤◌, ◌^◌, IfOk, IfErr, OnOk, List, true, false, length};
+ghost use Rattle.std.specs.Prelude.{◌≡◌, ◌≢◌, ◌↔◌, Err, ◌<◌, ◌≤◌, ◌^◌, IfOk, IfErr, IsTrue, OnOk, List, true, false, length};
 ghost use Rattle.rq_model.specs.History.Call.{Start_send};
 ghost use Rattle.rq_model.specs.Replay.Reply.{Gave_sub};
-ghost use Rattle.rq_model.specs.Tests.{NoneHolds, Passes, log_full, ready_tests};
+ghost use Rattle.rq_model.specs.Tests.{NoneHolds, Passes, log_full, ready_tests, without_pages};
 ghost use Rattle.rq_model.specs.Vocabulary.{message_of};
 ghost use Rattle.rq_page.specs.Sizes.{sender_count, cell_count};
 ghost use Rattle.rq_groups.specs.Ends.{is_free_for};
@@ -81,6 +81,7 @@ impl<P: PageDevice, L: LogDevice, B: Level> Engine<P, L, B> {
         // What was tested.
         ensures plain { IfErr result (λ r. r ≢ Refusal.Failed) }
         ensures unlatched { IfErr result (λ r. OnLatched ⊥ r) }
+        ensures tests { IfErr result (λ r. IsTrue (without_pages r)) }
         ensures leaves { NoneHolds (ready_tests (ledger_of self.now.state) txn false) → IfErr result (λ r. RefusedButRead
             (Start_send txn (message_of sender tag body.now)) self.now r self.now) }
         ensures tested { NoneHolds (ready_tests (ledger_of self.now.state) txn false)

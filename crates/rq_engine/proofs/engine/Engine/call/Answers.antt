@@ -1,10 +1,12 @@
-use Rattle.std.proofs.Common.{ap, refl}
+use Rattle.std.proofs.Common.{List, ap, refl, subst, ℕ}
 use Rattle.rq_engine.specs.Says.{call_of}
 use Rattle.rq_engine.specs.declared.event.Event.{Event}
 use Rattle.rq_model.specs.Causes.{writes_out}
 use Rattle.rq_engine.proofs.Applying.{not_leaves}
-use Rattle.rq_engine.specs.KeptUp.{reads_pages}
-use Rattle.rq_engine.proofs.Leaving.{plain_leaves, begun_leaves, start_leaves, take_begins, take_counts, undo_begins, undo_counts, undo_leaves}
+use Rattle.rq_engine.specs.KeptUp.{RefusedButRead, reads_pages}
+use Rattle.rq_model.specs.History.Call.{Start_send}
+use Rattle.rq_model.specs.Vocabulary.{message_of}
+use Rattle.rq_engine.proofs.Leaving.{plain_leaves, begun_leaves, take_begins, take_counts, undo_begins, undo_counts, undo_leaves}
 use Rattle.rq_engine.proofs.Listing.{begun_answered, take_lists, take_from_lists, log_left, undo_answered, undo_lists}
 use Rattle.rq_engine.proofs.engine.Engine.call.Goals as goal
 
@@ -12,7 +14,8 @@ pub returns-in-Err-clause-refused : goal.returns-in-Err-clause-refused
 returns-in-Err-clause-refused g c = plain_leaves c.args.self.now c.begin.new.self c.args.event.now _ (ap (λ (e : Event). reads_pages (call_of e)) c.in-Begin.is) (ap (λ (e : Event). writes_out (call_of e)) c.in-Begin.is) c.in-Err.ensures.refused
 
 pub returns-in-Err-start_send-clause-refused : goal.returns-in-Err-start_send-clause-refused
-returns-in-Err-start_send-clause-refused g c = start_leaves c.args.self.now c.start_send.new.self c.args.event.now _ _ (ap call_of c.in-StartSend.is) refl c.in-Err-start_send.ensures.refused
+returns-in-Err-start_send-clause-refused g c =
+    rw (c.in-StartSend.is) (subst (λ (b : List ℕ). RefusedButRead (Start_send c.in-StartSend.txn (message_of c.in-StartSend.sender c.in-StartSend.tag b)) c.args.self.now c.in-Err-start_send.refusal c.start_send.new.self) c.deref.ensures.value c.in-Err-start_send.ensures.refused)
 
 pub returns-in-Err-step-clause-refused : goal.returns-in-Err-step-clause-refused
 returns-in-Err-step-clause-refused g c = plain_leaves c.args.self.now c.step.new.self c.args.event.now _ (ap (λ (e : Event). reads_pages (call_of e)) c.in-Step.is) (ap (λ (e : Event). writes_out (call_of e)) c.in-Step.is) c.in-Err-step.ensures.refused
