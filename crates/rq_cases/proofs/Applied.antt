@@ -12,7 +12,6 @@ use Rattle.rq_store.specs.State.{State}
 use Rattle.rq_engine.specs.declared.event.Event.TheVariants as event
 use Rattle.rq_engine.specs.declared.event.Reply.TheVariants as reply
 use Rattle.rq_engine.specs.Applied.{RefusedBy}
-use Rattle.rq_engine.specs.KeptUp.{starts_one}
 use Rattle.rq_engine.specs.Opened.{pooled}
 use Rattle.rq_engine.specs.Says.{call_of}
 use Rattle.rq_engine.proofs.Crashing.{runs_through_cuts}
@@ -89,8 +88,8 @@ applied = record {
   another_sizes = λ old new e r other a. other a.sizes;
   failed_while_it_runs = λ old new e runs a. (let f = sym runs ∙ a.failed.0 refl in cc f);
   answered_while_it_failed = λ old new fails a. (let f = a.failed.1 fails in cc f);
-  refused_and_changed = λ old new e reads other a. other (subst (λ (b : Bool). RefusedBy b (starts_one (call_of e)) (writes_out (call_of e)) old why.NoMemory new) reads a.refused);
-  refused_by_a_test_and_changed = λ old new t other a. other a.refused;
+  refused_and_changed = λ old new e reads other a. other (subst (λ (b : Bool). RefusedBy b (writes_out (call_of e)) (call_of e) old why.NoMemory new) reads a.refused);
+  refused_by_a_test_and_changed = λ old new t other a. other a.refused.1;
   evicted = λ pages new log t sub after. (
     kept_after mem_pages 5 (pooled (over forced pages log)) (pooled (written_out pages new log)) 2 (Ok Done)
         (record { of_store = omega arith; changed = refl }, let e = cell_page_lsn in omega (arith, e)) after refl refl refl,
@@ -98,9 +97,9 @@ applied = record {
   );
   evicted_again = λ forced old mid new a b. kept_then mem_pages forced old mid new a b;
   evicted_and_failed = λ old new t runs a.
-      (let f = sym runs ∙ ap (λ (s : State). s.failed) a.refused in cc f);
+      (let f = sym runs ∙ ap (λ (s : State). s.failed) a.refused.1 in cc f);
   failure_passed_over = λ old new t sub other a. other a.pages.1;
-  failure_made_up = λ old new t low same a. (let f = a.pages.1 in omega (arith, low, same, f));
+  failure_made_up = λ old new t low same a. (let f = a.pages.1.1.once in omega (arith, low, same, f));
   change_forgotten = λ old new t r page marked gone low a. (let f = (a.pages.0.written page marked gone).lsn in omega (arith, low, f));
   page_marked = λ old new t r page clean marked a. (let f = sym clean ∙ (a.pages.0.changed page marked).was in cc f);
   clean_page_written = λ old new t r page c clean may not a.

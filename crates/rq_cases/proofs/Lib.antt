@@ -7,6 +7,7 @@ mod Sound
 mod Bytes
 mod Held
 mod Applied
+mod KeptUp
 mod Worlds
 mod Checkpoints
 mod Courses

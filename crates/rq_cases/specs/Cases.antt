@@ -7,6 +7,7 @@ use Rattle.rq_cases.specs.Checkpoints.{CheckpointsAreJudged}
 use Rattle.rq_cases.specs.Courses.{CausesAreJudged, StopsAreJudged}
 use Rattle.rq_cases.specs.Crashes.{RunsAreJudged}
 use Rattle.rq_cases.specs.Formatting.{FormatsAreJudged}
+use Rattle.rq_cases.specs.KeptUp.{StartsAreJudged}
 use Rattle.rq_cases.specs.RollingBack.{MendsAreJudged}
 use Rattle.rq_cases.specs.Openings.{BeginningsAreJudged, ChecksAreJudged, RefusalsAreJudged}
 use Rattle.rq_cases.specs.Replies.{ReceiptsAreJudged}
@@ -21,6 +22,8 @@ pub record Cases : Type 0 where
   -- A whole call over devices in memory, the force of a committed message, with what its clauses ask. What no call may answer
   -- or make, field by field.
   pub calls_are_applied : CallsAreApplied
+  -- What no start begins where a test of it holds, or refuses where none does, and what it leaves of pages.
+  pub starts_are_judged : StartsAreJudged
   -- A store between two happenings, open, shut or fresh, as a history leaves it; and stores that it doesn't.
   pub worlds_are_judged : WorldsAreJudged
   -- Stores behind a checkpoint, and stores in whose checkpoint a device failed, as a history leaves them.

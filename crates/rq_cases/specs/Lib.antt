@@ -6,6 +6,7 @@ pub mod Sound
 pub mod Opened
 pub mod Aborts
 pub mod Applied
+pub mod KeptUp
 pub mod Worlds
 pub mod Checkpoints
 pub mod Courses

@@ -31,7 +31,7 @@ use Rattle.rq_restart.specs.Restarting.{IsLeftOn, Reports, Stops}
 use Rattle.rq_core.specs.Devices.{mem_pages, mem_log}
 use Rattle.rq_restart.specs.declared.restart.Report.{Report}
 use Rattle.rq_core.specs.Happenings.{Course}
-use Rattle.rq_core.specs.Judged.{AreRunsJudged, Asked, IsLatchedOver, IsRefusedOver, IsReportedOver}
+use Rattle.rq_core.specs.Judged.{AreRunsJudged, Replied, IsLatchedOver, IsRefusedOver, IsReportedOver}
 use Rattle.rq_core.specs.Runs.{IsOpened, IsRefused, Led, MemWorld, Ran}
 use Rattle.rq_core.specs.Headline.{sizes_at}
 use Rattle.rq_core.specs.World.{IsOpen, IsShut}
@@ -119,7 +119,7 @@ refused_over z h pages new_pages log new_log r here stopped =
     }
 
 module _ (size_once : OneSizeEach) (met : (z : Sizes) (course : Course) (w : MemWorld) → Led z course w → Ran z course w) (z : Sizes) (course : Course) where
-  latched : (call : Call) (old new : OpenStore MemPages MemLog) → Led z course (Is_open old) → Asked call (Gave_refusal why.Latched) old new → IsLatchedOver old.state call
+  latched : (call : Call) (old new : OpenStore MemPages MemLog) → Led z course (Is_open old) → Replied call (Gave_refusal why.Latched) old new → IsLatchedOver old.state call
   latched call old new led a = record { some = (o.past, o.long, o.sound); each = each } where
     ran : Ran z course (Is_open old)
     ran = met z course (Is_open old) led

@@ -28,8 +28,8 @@ use Rattle.rq_core.specs.Runs.{IsOpened, IsRefused, Led}
 use Rattle.rq_core.specs.World.World.{Is_open, Is_shut}
 
 -- An open store over devices in memory was asked this, and answered so.
-abbrev pub Asked : Call → Reply → OpenStore MemPages MemLog → OpenStore MemPages MemLog → Type 0
-Asked call reply old new = IsAsked mem_pages mem_log (Some call) reply old new
+abbrev pub Replied : Call → Reply → OpenStore MemPages MemLog → OpenStore MemPages MemLog → Type 0
+Replied call reply old new = IsAsked mem_pages mem_log (Some call) reply old new
 
 -- Why a restart was refused, by the log that it read. Memory was wanting, a device failed then, or it was refused as LogFull.
 -- For LogFull that log is at its greatest length. It is never refused for what stands on its devices. The sizes are those that its
@@ -61,11 +61,11 @@ pub record IsReportedOver (log : MemLog) (report : Report) (new : OpenStore MemP
 
 pub record AreRunsJudged : Type 0 where
   -- where a page write is answered Nothing, nothing was handed over
-  pub nothing : (page : ℕ) (old new : OpenStore MemPages MemLog) → Asked (Write_page page) (Gave_written false) old new
+  pub nothing : (page : ℕ) (old new : OpenStore MemPages MemLog) → Replied (Write_page page) (Gave_written false) old new
       → new.log ≡ old.log
   -- a call is refused as Latched only where the very store that it met has latched all that the call may start
   pub latched : (z : Sizes) (course : Course) (call : Call) (old new : OpenStore MemPages MemLog)
-      → Led z course (Is_open old) → Asked call (Gave_refusal why.Latched) old new → IsLatchedOver old.state call
+      → Led z course (Is_open old) → Replied call (Gave_refusal why.Latched) old new → IsLatchedOver old.state call
   pub refused : (z : Sizes) (course : Course) (pages new_pages : MemPages) (log new_log : MemLog) (refusal : Refusal)
       → Led z course (Is_shut pages log) → IsRefused pages log refusal new_pages new_log
       → IsRefusedOver pages log refusal new_pages new_log

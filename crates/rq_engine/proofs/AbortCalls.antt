@@ -184,7 +184,7 @@ module _ (s : State) (t : Txn) (n : ℕ) (f : Finished) (h : NoneHolds (ready_te
   some_left : is_some (newest (found t (ledger_of s).open_ones)) ≡ true
   some_left = ap (λ o. is_some o) (newest_found s t n (Some f) back)
 
-  cost_found : undo_cost (newest (found t (ledger_of s).open_ones)) ≡ undo_cost (Some (op_done f))
+  pub cost_found : undo_cost (newest (found t (ledger_of s).open_ones)) ≡ undo_cost (Some (op_done f))
   cost_found = ap undo_cost (newest_found s t n (Some f) back)
 
   pub undo_full : log_full (ledger_of s) (undo_cost (Some (op_done f))) ≡ true → Refuses s (Undo_next t) why.LogFull

@@ -38,8 +38,9 @@ use Rattle.rq_store.proofs.Cutting.{whole_dropped, longer_continues, oldest_cont
 use Rattle.rq_engine.specs.declared.event.Event.{Event}
 use Rattle.rq_engine.specs.declared.event.Event.TheVariants as event
 use Rattle.rq_engine.specs.declared.event.Reply.{Reply}
+use Rattle.rq_engine.specs.declared.event.Reply.TheVariants as reply
 use Rattle.rq_engine.specs.Opened.{AreHonest, OpenStore, WritesWhen, pooled, state_after}
-use Rattle.rq_engine.specs.KeptUp.{PagesStay, starts_one}
+use Rattle.rq_engine.specs.KeptUp.{PagesStay, RefusalCounts, ReplyCounts, starts_one}
 use Rattle.rq_engine.specs.Says.{PagesSay, WritesSay, call_of, written_by}
 use Rattle.rq_engine.specs.Crash.{AreFit, IsCut, KeepsFit, LeavesCut, RunsThroughCuts, StaysFit, commits_left}
 use Rattle.rq_engine.specs.Earlier.{on, over, rebased, IsEarlier}
@@ -326,9 +327,27 @@ writes_over : {P L : Type 0} (x : List Record) (old : OpenStore P L) (e : Event)
 writes_over x old (event.WritePage page) r h = when_over x old page (written_by r) h
 writes_over x old _ r h = tt
 
-pages_over : {P L : Type 0} (p : page_device.Ghosts P) (x : List Record) (old new : OpenStore P L) (e : Event) (r : Reply) → PagesSay p old new e r → PagesSay p (over x old) (over x new) e r
-pages_over p x old new (event.WritePage page) r h = h
-pages_over p x old new _ r h = h
+-- nor does how often the pages' device has failed
+module _ {P L : Type 0} (p : page_device.Ghosts P) (x : List Record) (old new : OpenStore P L) where
+  refusal_over : (r : Refusal) → RefusalCounts p r old new → RefusalCounts p r (over x old) (over x new)
+  refusal_over why.DiskWrite h = h
+  refusal_over why.DiskRead h = h
+  refusal_over r h = h
+
+  counts_over : (r : Reply) → ReplyCounts p r old new → ReplyCounts p r (over x old) (over x new)
+  counts_over (reply.Refused r) h = refusal_over r h
+  counts_over r h = h
+
+  stay_over : (starts : Bool) (r : Reply) → PagesStay starts p old r new → PagesStay starts p (over x old) r (over x new)
+  stay_over true r h = (h.0, counts_over r h.1)
+  stay_over false r h = h
+
+  pages_over : (e : Event) (r : Reply) → PagesSay p old new e r → PagesSay p (over x old) (over x new) e r
+  pages_over (event.WritePage page) r h = h
+  pages_over event.Checkpoint r h = h
+  pages_over (event.Migrate pages) r h = h
+  pages_over event.Content r h = (h.0, counts_over r h.1)
+  pages_over e r h = stay_over (starts_one (call_of e)) r h
 
 -- over any earlier records
 module _ {P L : Type 0} (p : page_device.Ghosts P) (l : log_device.Ghosts L) (only_now : (d : P) (c : Images) → p.left_since d (p.moment d) c → Leaves (p.may_be d) c) where

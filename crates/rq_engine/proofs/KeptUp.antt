@@ -1,11 +1,12 @@
 -- Open stores that are kept up.
-use Rattle.std.proofs.Common.{◌≡◌, ℕ, true, false, List, arith, inl, refl, sym, ap, subst, ◌∙◌}
+use Rattle.std.proofs.Common.{◌≡◌, ℕ, Bool, true, false, List, arith, inl, refl, sym, ap, subst, ◌∙◌}
 use Rattle.rq_disk.specs.declared.device.LogDevice as log_device
 use Rattle.rq_disk.specs.declared.device.PageDevice as page_device
 use Rattle.rq_model.specs.declared.refusal.Refusal.{Refusal}
 use Rattle.rq_model.specs.declared.refusal.Refusal.TheVariants as why
 use Rattle.rq_model.specs.declared.txn.Txn.{Txn}
 use Rattle.rq_model.specs.History.{Call}
+use Rattle.rq_model.specs.Tests.{NoneHolds}
 use Rattle.rq_content.specs.Read.{IsBroken, StopsFor}
 use Rattle.rq_groups.specs.declared.End.{End}
 use Rattle.rq_groups.specs.Sides.{with_end}
@@ -17,10 +18,11 @@ use Rattle.rq_pool.specs.Reading.{OnlyRead}
 use Rattle.rq_store.specs.State.{State}
 use Rattle.rq_txn.specs.Rows.{Row, change_row, row_started}
 use Rattle.rq_engine.specs.Answers.{HasNothingUnderWay}
-use Rattle.rq_engine.specs.KeptUp.{AreButRead, KeepsDevices, KeepsUp, RefusalCounts, RefusedButRead, with_images_of}
+use Rattle.rq_engine.specs.KeptUp.{AreButRead, KeepsDevices, KeepsUp, RefusalCounts, RefusedBehind, RefusedButRead, starts_one, with_images_of}
 use Rattle.rq_engine.specs.Lists.{DoesTask, IsStarted}
 use Rattle.rq_engine.specs.Opened.{AreHonest, LeavesDevices, OpenStore, pooled}
 use Rattle.rq_engine.specs.Plans.{Planned, under_plan}
+use Rattle.rq_engine.specs.Tested.{tested}
 
 -- lists but for images, over images that stayed
 pub but_same : (lists new : State) → AreButRead lists new → new.images ≡ lists.images → new ≡ lists
@@ -43,7 +45,7 @@ module _ {P L : Type 0} (g : page_device.Ghosts P) where
   -- nothing happened
   pub up_still : (c : Call) (old new : OpenStore P L) → new ≡ old → KeepsUp g c old new
   up_still c old new same =
-      subst (λ (s : OpenStore P L). KeepsUp g c old s) (sym same) (record { devices = devices_still old old (refl, refl, refl, refl) refl refl; lists = refl; faults = refl; read = λ e. read_none g old.pages; still = λ e. refl })
+      subst (λ (s : OpenStore P L). KeepsUp g c old s) (sym same) (record { devices = devices_still old old (refl, refl, refl, refl) refl refl; lists = refl; faults = refl; read = λ e. (read_none g old.pages, refl); still = λ e. refl })
 
   -- over an honest device the lists are all as they were
   pub up_state : {c : Call} (old new : OpenStore P L) → KeepsUp g c old new → g.honest new.pages → new.state ≡ old.state
@@ -54,7 +56,7 @@ module _ {P L : Type 0} (g : page_device.Ghosts P) where
   up_honest l old new k h = (k.0.honest h.0, subst (λ (d : L). l.honest d) k.1 h.1)
 
   -- a device counts no failure where a plan was refused of what stands in memory
-  pub planned_counts : (IsHeld : Type 0) (r : Refusal) → RefusesPlan IsHeld r → (old new : OpenStore P L) → new ≡ old → RefusalCounts g r old.pages new.pages
+  pub planned_counts : (IsHeld : Type 0) (r : Refusal) → RefusesPlan IsHeld r → (old new : OpenStore P L) → new ≡ old → RefusalCounts g r old new
   planned_counts IsHeld why.NoMemory causes old new is = ap (λ (s : OpenStore P L). g.faults s.pages) is
   planned_counts IsHeld why.Latched causes old new is = ap (λ (s : OpenStore P L). g.faults s.pages) is
   planned_counts IsHeld (why.Damaged d) causes old new is = ap (λ (s : OpenStore P L). g.faults s.pages) is
@@ -77,17 +79,20 @@ begun_by s t n end cells task plan new ready asked is = record {
 
 -- what a refusal of a plan leaves that read no device
 module _ {P L : Type 0} (old new : OpenStore P L) where
-  pub planned_leaves : (IsHeld : Type 0) (r : Refusal) → RefusesPlan IsHeld r → new ≡ old → RefusedButRead true old r new
-  planned_leaves IsHeld why.NoMemory causes is = subst (λ (s : OpenStore P L). AreButRead old.state s.state) (sym is) refl
-  planned_leaves IsHeld why.Latched causes is = subst (λ (s : OpenStore P L). AreButRead old.state s.state) (sym is) refl
-  planned_leaves IsHeld (why.Damaged d) causes is = subst (λ (s : OpenStore P L). AreButRead old.state s.state) (sym is) refl
-  planned_leaves IsHeld _ causes is = absurd causes
+  plan_leaves : (tests : List (Bool × Refusal)) → NoneHolds tests → (IsHeld : Type 0) (r : Refusal) → RefusesPlan IsHeld r → new ≡ old → RefusedBehind true tests old r new
+  plan_leaves tests passed IsHeld why.NoMemory causes is = (passed, subst (λ (s : OpenStore P L). AreButRead old.state s.state) (sym is) refl)
+  plan_leaves tests passed IsHeld why.Latched causes is = (passed, subst (λ (s : OpenStore P L). AreButRead old.state s.state) (sym is) refl)
+  plan_leaves tests passed IsHeld (why.Damaged d) causes is = (passed, subst (λ (s : OpenStore P L). AreButRead old.state s.state) (sym is) refl)
+  plan_leaves tests passed IsHeld _ causes is = absurd causes
+
+  pub planned_leaves : (c : Call) → starts_one c ≡ true → NoneHolds (tested old.state c) → (IsHeld : Type 0) (r : Refusal) → RefusesPlan IsHeld r → new ≡ old → RefusedButRead c old r new
+  planned_leaves c starts passed IsHeld r causes is = subst (λ (b : Bool). RefusedBehind b (tested old.state c) old r new) (sym starts) (plan_leaves (tested old.state c) passed IsHeld r causes is)
 
 -- and of a content
-module _ {P L : Type 0} (g : page_device.Ghosts P) (old : OpenStore P L) (z : Sizes) (images : List (List ℕ)) (rows : List Row) where
-  shown_leaves : (r : Refusal) → IsBroken z images rows r → RefusedButRead false old r old × RefusalCounts g r old.pages old.pages
-  shown_leaves r broken = rw (broken.page) (refl, refl)
+module _ {P L : Type 0} (g : page_device.Ghosts P) (old : OpenStore P L) (tests : List (Bool × Refusal)) (passed : NoneHolds tests) (z : Sizes) (images : List (List ℕ)) (rows : List Row) where
+  shown_leaves : (r : Refusal) → IsBroken z images rows r → RefusedBehind false tests old r old × RefusalCounts g r old old
+  shown_leaves r broken = rw (broken.page) ((passed, refl), refl)
 
-  pub content_leaves : (r : Refusal) → StopsFor z images rows r → RefusedButRead false old r old × RefusalCounts g r old.pages old.pages
-  content_leaves why.NoMemory stops = (refl, refl)
+  pub content_leaves : (r : Refusal) → StopsFor z images rows r → RefusedBehind false tests old r old × RefusalCounts g r old old
+  content_leaves why.NoMemory stops = ((passed, refl), refl)
   content_leaves r stops = shown_leaves r stops

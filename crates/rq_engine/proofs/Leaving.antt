@@ -16,7 +16,7 @@ use Rattle.rq_engine.specs.declared.event.Event.TheVariants as event
 use Rattle.rq_disk.specs.declared.device.LogDevice as log_device
 use Rattle.rq_disk.specs.declared.device.PageDevice as page_device
 use Rattle.rq_pool.specs.Reading.{OnlyRead}
-use Rattle.rq_engine.specs.Applied.{BegunSay, RefusalLeaves, RefusedBy, RefusedStill, ReplacingSays, TakeBegan, UndoBegan}
+use Rattle.rq_engine.specs.Applied.{BegunSay, ChangesSay, RefusalLeaves, RefusedBy, RefusedStill, ReplacingSays, TakeBegan, UndoBegan}
 use Rattle.rq_engine.specs.KeptUp.{AnswerCounts, AreButRead, KeepsDevices, KeepsUp, OnRead, RefusedButRead, ReplyCounts, reads_pages, starts_one}
 use Rattle.rq_engine.specs.Aborts.{IsUndoBegun, UndoSays}
 use Rattle.rq_engine.specs.Lists.{ListsSay}
@@ -34,26 +34,26 @@ module _ {P L : Type 0} (old new : OpenStore P L) where
   plain_leaves e r reads writes same = rw (reads, writes) (still_plain r same)
 
   -- so does one of a store that had failed
-  failed_by : (reads starts writes : Bool) → RefusedBy reads starts writes old why.Failed new → new ≡ old
-  failed_by true starts writes h = h
-  failed_by false starts writes h = h
+  failed_by : (reads writes : Bool) (c : Call) → RefusedBy reads writes c old why.Failed new → new ≡ old
+  failed_by true writes c h = h.1
+  failed_by false writes c h = h
 
   pub failed_leaves : (e : Event) → RefusalLeaves old e (reply.Refused why.Failed) new → new ≡ old
-  failed_leaves e h = failed_by (reads_pages (call_of e)) (starts_one (call_of e)) (writes_out (call_of e)) h
+  failed_leaves e h = failed_by (reads_pages (call_of e)) (writes_out (call_of e)) (call_of e) h
 
   -- one that starts an operation has perhaps read pages
-  pub start_leaves : (e : Event) (r : Refusal) → reads_pages (call_of e) ≡ true → starts_one (call_of e) ≡ true → RefusedButRead true old r new → RefusalLeaves old e (reply.Refused r) new
-  start_leaves e r reads starts left = rw (reads, starts) left
+  start_leaves : (e : Event) (c : Call) (r : Refusal) → call_of e ≡ c → reads_pages c ≡ true → RefusedButRead c old r new → RefusalLeaves old e (reply.Refused r) new
+  start_leaves e c r is reads left = rw (is, reads) left
 
-  pub begun_leaves : (e : Event) (x : Result (Option Sub) Refusal) (y : Reply) → reads_pages (call_of e) ≡ true → starts_one (call_of e) ≡ true → IfErr x (λ r. RefusedButRead true old r new) → y ≡ begun_reply x → RefusalLeaves old e y new
-  begun_leaves e (Ok (Some sub)) y reads starts left is = rw is tt
-  begun_leaves e (Ok None) y reads starts left is = rw is tt
-  begun_leaves e (Err r) y reads starts left is = rw is (start_leaves e r reads starts left)
+  pub begun_leaves : (e : Event) (c : Call) (x : Result (Option Sub) Refusal) (y : Reply) → call_of e ≡ c → reads_pages c ≡ true → IfErr x (λ r. RefusedButRead c old r new) → y ≡ begun_reply x → RefusalLeaves old e y new
+  begun_leaves e c (Ok (Some sub)) y is reads left said = rw said tt
+  begun_leaves e c (Ok None) y is reads left said = rw said tt
+  begun_leaves e c (Err r) y is reads left said = rw said (start_leaves e c r is reads left)
 
-  pub undo_leaves : (e : Event) (x : Result (Option Sub) Refusal) (y : Reply) → reads_pages (call_of e) ≡ true → starts_one (call_of e) ≡ true → IfErr x (λ r. RefusedButRead true old r new) → y ≡ undo_reply x → RefusalLeaves old e y new
-  undo_leaves e (Ok (Some sub)) y reads starts left is = rw is tt
-  undo_leaves e (Ok None) y reads starts left is = rw is tt
-  undo_leaves e (Err r) y reads starts left is = rw is (start_leaves e r reads starts left)
+  pub undo_leaves : (e : Event) (c : Call) (x : Result (Option Sub) Refusal) (y : Reply) → call_of e ≡ c → reads_pages c ≡ true → IfErr x (λ r. RefusedButRead c old r new) → y ≡ undo_reply x → RefusalLeaves old e y new
+  undo_leaves e c (Ok (Some sub)) y is reads left said = rw said tt
+  undo_leaves e c (Ok None) y is reads left said = rw said tt
+  undo_leaves e c (Err r) y is reads left said = rw said (start_leaves e c r is reads left)
 
   -- what has begun then
   pub take_begins : (Begins : Sub → State → Type 0) (Lacks : State → Type 0) (x : Result (Option Sub) Refusal) (y : Reply) → IfOk x (λ b. IfSome b (λ sub. Begins sub new.state)) → IfOk x (λ b. IfNone b ((new ≡ old) × Lacks new.state)) → y ≡ begun_reply x → TakeBegan old Begins Lacks y new
@@ -68,36 +68,40 @@ module _ {P L : Type 0} (old new : OpenStore P L) where
 
   -- and how often the pages' device has failed
   module _ (p : page_device.Ghosts P) where
-    pub take_counts : (x : Result (Option Sub) Refusal) (y : Reply) → AnswerCounts p x old.pages new.pages → y ≡ begun_reply x → ReplyCounts p y old.pages new.pages
+    pub take_counts : (x : Result (Option Sub) Refusal) (y : Reply) → AnswerCounts p x old new → y ≡ begun_reply x → ReplyCounts p y old new
     take_counts (Ok (Some sub)) y counts is = rw is counts
     take_counts (Ok None) y counts is = rw is counts
     take_counts (Err r) y counts is = rw is counts
 
-    pub undo_counts : (x : Result (Option Sub) Refusal) (y : Reply) → AnswerCounts p x old.pages new.pages → y ≡ undo_reply x → ReplyCounts p y old.pages new.pages
+    pub undo_counts : (x : Result (Option Sub) Refusal) (y : Reply) → AnswerCounts p x old new → y ≡ undo_reply x → ReplyCounts p y old new
     undo_counts (Ok (Some sub)) y counts is = rw is counts
     undo_counts (Ok None) y counts is = rw is counts
     undo_counts (Err r) y counts is = rw is counts
 
   -- what a call leaves for want of memory, and one that shows the content
   module _ (p : page_device.Ghosts P) (l : log_device.Ghosts L) where
-    keeps_devices : (e : Event) (r : Reply) → reads_pages (call_of e) ≡ true → PagesSay p old new e r → LogSays l old new e r → ReplacingSays old e r new → KeepsDevices p old new × ReplyCounts p r old.pages new.pages × (starts_one (call_of e) ≡ false → OnlyRead p old.pages new.pages)
-    keeps_devices event.Content r is pages log replacing = ((pages.0.0, log, replacing), pages.1, λ none. pages.0.1)
-    keeps_devices (event.StartSend txn sender tag body) r is pages log replacing = ((pages.0, log, replacing), pages.1, λ none. absurd (true≢false none))
-    keeps_devices (event.StartReceive txn) r is pages log replacing = ((pages.0, log, replacing), pages.1, λ none. absurd (true≢false none))
-    keeps_devices (event.StartReceiveFrom txn sender) r is pages log replacing = ((pages.0, log, replacing), pages.1, λ none. absurd (true≢false none))
-    keeps_devices (event.StartClose txn sender) r is pages log replacing = ((pages.0, log, replacing), pages.1, λ none. absurd (true≢false none))
-    keeps_devices (event.StartMark txn client tag) r is pages log replacing = ((pages.0, log, replacing), pages.1, λ none. absurd (true≢false none))
-    keeps_devices (event.UndoNext txn) r is pages log replacing = ((pages.0, log, replacing), pages.1, λ none. absurd (true≢false none))
-    keeps_devices _ r is pages log replacing = absurd (true≢false (sym is))
+    -- pages were only read, and count as changed as before
+    abbrev OnlyReads : Call → Type 0
+    OnlyReads c = starts_one c ≡ false → OnlyRead p old.pages new.pages × (new.changed ≡ old.changed)
 
-    memory_by : (c : Call) (reads : Bool) → reads_pages c ≡ reads → (starts writes : Bool) → RefusedBy reads starts writes old why.NoMemory new → (reads ≡ true → KeepsDevices p old new × (p.faults new.pages ≡ p.faults old.pages) × (starts_one c ≡ false → OnlyRead p old.pages new.pages)) → KeepsUp p c old new
-    memory_by c true is starts writes h devices = record { devices = (devices refl).0; lists = h; faults = (devices refl).1; read = (devices refl).2; still = λ none. absurd (true≢false (sym is ∙ none)) }
-    memory_by c false is starts writes h devices = up_still p c old new h
+    keeps_devices : (e : Event) (r : Reply) → reads_pages (call_of e) ≡ true → PagesSay p old new e r → LogSays l old new e r → ReplacingSays old e r new → ChangesSay old e r new → KeepsDevices p old new × ReplyCounts p r old new × OnlyReads (call_of e)
+    keeps_devices event.Content r is pages log replacing changes = ((pages.0.0, log, replacing), pages.1, λ none. (pages.0.1, changes))
+    keeps_devices (event.StartSend txn sender tag body) r is pages log replacing changes = ((pages.0, log, replacing), pages.1, λ none. absurd (true≢false none))
+    keeps_devices (event.StartReceive txn) r is pages log replacing changes = ((pages.0, log, replacing), pages.1, λ none. absurd (true≢false none))
+    keeps_devices (event.StartReceiveFrom txn sender) r is pages log replacing changes = ((pages.0, log, replacing), pages.1, λ none. absurd (true≢false none))
+    keeps_devices (event.StartClose txn sender) r is pages log replacing changes = ((pages.0, log, replacing), pages.1, λ none. absurd (true≢false none))
+    keeps_devices (event.StartMark txn client tag) r is pages log replacing changes = ((pages.0, log, replacing), pages.1, λ none. absurd (true≢false none))
+    keeps_devices (event.UndoNext txn) r is pages log replacing changes = ((pages.0, log, replacing), pages.1, λ none. absurd (true≢false none))
+    keeps_devices _ r is pages log replacing changes = absurd (true≢false (sym is))
 
-    pub memory_keeps : (e : Event) (r : Reply) → PagesSay p old new e r → LogSays l old new e r → ReplacingSays old e r new → RefusalLeaves old e r new → r ≡ reply.Refused why.NoMemory → KeepsUp p (call_of e) old new
-    memory_keeps e r pages log replacing left is =
-        memory_by (call_of e) (reads_pages (call_of e)) refl (starts_one (call_of e)) (writes_out (call_of e)) (subst (λ (x : Reply). RefusalLeaves old e x new) is left)
-        (λ reads. (let k = keeps_devices e r reads pages log replacing in (k.0, subst (λ (x : Reply). ReplyCounts p x old.pages new.pages) is k.1, k.2)))
+    memory_by : (c : Call) (reads : Bool) → reads_pages c ≡ reads → (writes : Bool) → RefusedBy reads writes c old why.NoMemory new → (reads ≡ true → KeepsDevices p old new × (p.faults new.pages ≡ p.faults old.pages) × OnlyReads c) → KeepsUp p c old new
+    memory_by c true is writes h devices = record { devices = (devices refl).0; lists = h.1; faults = (devices refl).1; read = (devices refl).2; still = λ none. absurd (true≢false (sym is ∙ none)) }
+    memory_by c false is writes h devices = up_still p c old new h
+
+    pub memory_keeps : (e : Event) (r : Reply) → PagesSay p old new e r → LogSays l old new e r → ReplacingSays old e r new → ChangesSay old e r new → RefusalLeaves old e r new → r ≡ reply.Refused why.NoMemory → KeepsUp p (call_of e) old new
+    memory_keeps e r pages log replacing changes left is =
+        memory_by (call_of e) (reads_pages (call_of e)) refl (writes_out (call_of e)) (subst (λ (x : Reply). RefusalLeaves old e x new) is left)
+        (λ reads. (let k = keeps_devices e r reads pages log replacing changes in (k.0, subst (λ (x : Reply). ReplyCounts p x old new) is k.1, k.2)))
 
     content_of : (e : Event) (groups : _) → OnRead (reads_pages (call_of e)) (p.honest new.pages) (ListsSay old.state e (reply.Content groups) new.state) → BegunSay old e (reply.Content groups) new → (reads_pages (call_of e) ≡ true) × AreButRead old.state new.state
     content_of event.Content groups lists begun = (refl, begun)
@@ -109,9 +113,9 @@ module _ {P L : Type 0} (old new : OpenStore P L) where
     content_of (event.UndoNext txn) groups lists begun = absurd begun
     content_of _ groups lists begun = absurd lists
 
-    pub content_keeps : (e : Event) (r : Reply) → IsContent r → OnRead (reads_pages (call_of e)) (p.honest new.pages) (ListsSay old.state e r new.state) → BegunSay old e r new → PagesSay p old new e r → LogSays l old new e r → ReplacingSays old e r new → KeepsUp p (call_of e) old new
-    content_keeps e (reply.Content groups) is lists begun pages log replacing =
+    pub content_keeps : (e : Event) (r : Reply) → IsContent r → OnRead (reads_pages (call_of e)) (p.honest new.pages) (ListsSay old.state e r new.state) → BegunSay old e r new → PagesSay p old new e r → LogSays l old new e r → ReplacingSays old e r new → ChangesSay old e r new → KeepsUp p (call_of e) old new
+    content_keeps e (reply.Content groups) is lists begun pages log replacing changes =
         let c = content_of e groups lists begun in
-        let k = keeps_devices e (reply.Content groups) c.0 pages log replacing in
+        let k = keeps_devices e (reply.Content groups) c.0 pages log replacing changes in
         record { devices = k.0; lists = c.1; faults = k.1; read = k.2; still = λ none. absurd (true≢false (sym c.0 ∙ none)) }
-    content_keeps e _ is lists begun pages log replacing = absurd is
+    content_keeps e _ is lists begun pages log replacing changes = absurd is

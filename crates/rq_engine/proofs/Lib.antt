@@ -1,6 +1,7 @@
 pub mod Told
 pub mod Opened
 pub mod KeptUp
+pub mod Tested
 pub mod Earlier
 pub mod UnknownStay
 pub mod Owned

@@ -14,10 +14,12 @@ use Rattle.rq_engine.specs.declared.event.Reply.{Reply}
 use Rattle.rq_engine.specs.declared.event.Reply.TheVariants as reply
 use Rattle.rq_engine.specs.Applied.{BegunSay, RefusalLeaves, RefusedBy, RefusedStill, WriteFails}
 use Rattle.rq_engine.specs.Earlier.{rebased, unknown}
-use Rattle.rq_engine.specs.KeptUp.{OnRead, RefusedButRead, reads_pages, starts_one}
+use Rattle.rq_engine.specs.KeptUp.{OnRead, RefusedBehind, reads_pages, starts_one}
 use Rattle.rq_engine.specs.Lists.{ListsSay}
 use Rattle.rq_engine.specs.Opened.{OpenStore}
 use Rattle.rq_engine.specs.Says.{call_of}
+use Rattle.rq_engine.specs.Tested.{tested}
+use Rattle.rq_model.specs.History.{Call}
 
 -- only a checkpoint adds a Base, and a migration
 abbrev pub IsNoCheckpoint : Event → Type 0
@@ -37,47 +39,47 @@ module _ {P L : Type 0} (old new : OpenStore P L) where
   failing true w = ap under w
   failing false w = ap (λ (o : OpenStore P L). under o.state) w
 
-  refused_but : (b : Bool) (r : Refusal) → RefusedButRead b old r new → Same
-  refused_but true why.DiskWrite h = ap under h
-  refused_but false why.DiskWrite h = absurd h
-  refused_but b why.DiskRead h = ap under h
-  refused_but b (why.Damaged d) h = ap under h
-  refused_but true why.Latched h = ap under h
-  refused_but false why.Latched h = absurd h
-  refused_but true why.PoolFull h = ap under h
-  refused_but false why.PoolFull h = absurd h
-  refused_but b why.NoMemory h = ap under h
-  refused_but b _ h = ap (λ (o : OpenStore P L). under o.state) h
+  refused_but : (b : Bool) (ts : List (Bool × Refusal)) (r : Refusal) → RefusedBehind b ts old r new → Same
+  refused_but true ts why.DiskWrite h = ap under h.1
+  refused_but false ts why.DiskWrite h = absurd h.1
+  refused_but b ts why.DiskRead h = ap under h.1
+  refused_but b ts (why.Damaged d) h = ap under h.1
+  refused_but true ts why.Latched h = ap under h.1
+  refused_but false ts why.Latched h = absurd h.1
+  refused_but true ts why.PoolFull h = ap under h.1
+  refused_but false ts why.PoolFull h = absurd h.1
+  refused_but b ts why.NoMemory h = ap under h.1
+  refused_but b ts _ h = ap (λ (o : OpenStore P L). under o.state) h.1
 
   refused_still : (w : Bool) (r : Refusal) → RefusedStill w old r new → Same
   refused_still w why.DiskWrite h = failing w h
   refused_still w _ h = ap (λ (o : OpenStore P L). under o.state) h
 
-  refused_by : (reads starts writes : Bool) (r : Refusal) → RefusedBy reads starts writes old r new → Same
-  refused_by true starts writes r h = refused_but starts r h
-  refused_by false starts writes r h = refused_still writes r h
+  refused_by : (reads writes : Bool) (c : Call) (r : Refusal) → RefusedBy reads writes c old r new → Same
+  refused_by true writes c r h = refused_but (starts_one c) (tested old.state c) r h
+  refused_by false writes c r h = refused_still writes r h
 
   refused : (e : Event) (r : Refusal) → RefusalLeaves old e (reply.Refused r) new → Same
-  refused e r h = refused_by (reads_pages (call_of e)) (starts_one (call_of e)) (writes_out (call_of e)) r h
+  refused e r h = refused_by (reads_pages (call_of e)) (writes_out (call_of e)) (call_of e) r h
 
   both_stay : (e : Event) (r : Reply) → IsNoCheckpoint e → (H : Type 0) → OnRead (reads_pages (call_of e)) H (ListsSay old.state e r new.state) → BegunSay old e r new → RefusalLeaves old e r new → Same
   both_stay event.Begin (reply.Begun t) other H h b f = ap under h.lists
   both_stay event.Begin (reply.Refused r) other H h b f = refused event.Begin r f
-  both_stay (event.StartSend t s tag body) (reply.Started sub) other H h b f = ap under b.1.lists
+  both_stay (event.StartSend t s tag body) (reply.Started sub) other H h b f = ap under b.2.lists
   both_stay (event.StartSend t s tag body) (reply.Refused r) other H h b f = refused (event.StartSend t s tag body) r f
   both_stay (event.StartSend t s tag body) _ other H h b f = absurd b
-  both_stay (event.StartReceive t) (reply.Started sub) other H h b f = ap under b.1.2.lists
+  both_stay (event.StartReceive t) (reply.Started sub) other H h b f = ap under b.1.3.lists
   both_stay (event.StartReceive t) reply.NoMessage other H h b f = ap (λ (o : OpenStore P L). under o.state) b.0
   both_stay (event.StartReceive t) (reply.Refused r) other H h b f = refused (event.StartReceive t) r f
   both_stay (event.StartReceive t) _ other H h b f = absurd b
-  both_stay (event.StartReceiveFrom t s) (reply.Started sub) other H h b f = ap under b.2.lists
+  both_stay (event.StartReceiveFrom t s) (reply.Started sub) other H h b f = ap under b.3.lists
   both_stay (event.StartReceiveFrom t s) reply.NoMessage other H h b f = ap (λ (o : OpenStore P L). under o.state) b.0
   both_stay (event.StartReceiveFrom t s) (reply.Refused r) other H h b f = refused (event.StartReceiveFrom t s) r f
   both_stay (event.StartReceiveFrom t s) _ other H h b f = absurd b
-  both_stay (event.StartClose t s) (reply.Started sub) other H h b f = ap under b.1.lists
+  both_stay (event.StartClose t s) (reply.Started sub) other H h b f = ap under b.2.lists
   both_stay (event.StartClose t s) (reply.Refused r) other H h b f = refused (event.StartClose t s) r f
   both_stay (event.StartClose t s) _ other H h b f = absurd b
-  both_stay (event.StartMark t c tag) (reply.Started sub) other H h b f = ap under b.1.lists
+  both_stay (event.StartMark t c tag) (reply.Started sub) other H h b f = ap under b.2.lists
   both_stay (event.StartMark t c tag) (reply.Refused r) other H h b f = refused (event.StartMark t c tag) r f
   both_stay (event.StartMark t c tag) _ other H h b f = absurd b
   both_stay (event.Step sub) (reply.Stepped (progress.Done lsn)) other H h b f = ap under h.3.state
@@ -93,7 +95,7 @@ module _ {P L : Type 0} (old new : OpenStore P L) where
   both_stay (event.Commit t) (reply.Refused r) other H h b f = refused (event.Commit t) r f
   both_stay (event.StartAbort t) reply.Aborting other H h b f = ap under h.1
   both_stay (event.StartAbort t) (reply.Refused r) other H h b f = refused (event.StartAbort t) r f
-  both_stay (event.UndoNext t) (reply.Started sub) other H h b f = ap under b.1.lists
+  both_stay (event.UndoNext t) (reply.Started sub) other H h b f = ap under b.2.lists
   both_stay (event.UndoNext t) reply.NothingLeft other H h b f = ap (λ (o : OpenStore P L). under o.state) b.0
   both_stay (event.UndoNext t) (reply.Refused r) other H h b f = refused (event.UndoNext t) r f
   both_stay (event.UndoNext t) _ other H h b f = absurd b

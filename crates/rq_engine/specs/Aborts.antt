@@ -4,7 +4,9 @@ use Rattle.rq_model.specs.declared.record.Deed.{Deed}
 use Rattle.rq_model.specs.declared.record.Record.TheVariants.{AbortEnd}
 use Rattle.rq_model.specs.declared.txn.Sub.{Sub}
 use Rattle.rq_model.specs.declared.txn.Txn.{Txn}
+use Rattle.rq_model.specs.History.Call.{Undo_next}
 use Rattle.rq_model.specs.Legal.{OnFound}
+use Rattle.rq_model.specs.Tests.{NoneHolds}
 use Rattle.rq_model.specs.Vocabulary.{last}
 use Rattle.rq_page.specs.Sizes.{Sizes}
 use Rattle.rq_views.specs.Claims.{appends_of}
@@ -24,6 +26,7 @@ use Rattle.rq_sound.specs.Inverses.{InverseIsLatched, InverseTakesLowest}
 use Rattle.rq_engine.specs.Answers.{HasNothingUnderWay, IsUnderWay}
 use Rattle.rq_engine.specs.KeptUp.{with_images_of}
 use Rattle.rq_engine.specs.Moves.{with_taken}
+use Rattle.rq_engine.specs.Tested.{tested}
 
 -- ---- what is found
 
@@ -88,9 +91,9 @@ abbrev pub UndoSays : State → Txn → Option Sub → State → Type 0
 UndoSays old t (Some sub) new = (sub.txn ≡ t) × IsUndoStarted old sub (IsLowestUndo old) new
 UndoSays old t None new = ((n : ℕ) × IsTurnedBack old t n None) × (new ≡ old)
 
--- the inverse has begun, whatever the device gave of pages that were read
+-- the inverse has begun, whatever the device gave of pages that were read; no test of it holds
 abbrev pub IsUndoBegun : State → Txn → Sub → State → Type 0
-IsUndoBegun old t sub new = (sub.txn ≡ t)
+IsUndoBegun old t sub new = (sub.txn ≡ t) × NoneHolds (tested old (Undo_next t))
     × IsUndoStarted old sub (λ u f. (u.made ≡ 0) × (u.aim ≡ Undoing f.lsn f.deed)) (with_images_of old new)
 
 -- An inverse whose writes are made was ended by the record that names what it undid. That is no longer among what its

@@ -48,15 +48,15 @@ abbrev pub RefusedStill : {P L : Type 0} → Bool → OpenStore P L → Refusal 
 RefusedStill writes old why.DiskWrite new = WriteFails writes old new
 RefusedStill writes old r new = new ≡ old
 
-abbrev pub RefusedBy : {P L : Type 0} → (reads starts writes : Bool) → OpenStore P L → Refusal → OpenStore P L → Type 0
-RefusedBy true starts writes old r new = RefusedButRead starts old r new
-RefusedBy false starts writes old r new = RefusedStill writes old r new
+abbrev pub RefusedBy : {P L : Type 0} → (reads writes : Bool) → Call → OpenStore P L → Refusal → OpenStore P L → Type 0
+RefusedBy true writes c old r new = RefusedButRead c old r new
+RefusedBy false writes c old r new = RefusedStill writes old r new
 
 -- What a refusal leaves of the store. All is as it was, the devices too, but where a device failed in a write, which stops the
 -- store, and where a start or a content was refused behind its tests (`RefusedButRead`). Of devices other clauses tell there.
 abbrev pub RefusalLeaves : {P L : Type 0} → OpenStore P L → Event → Reply → OpenStore P L → Type 0
 RefusalLeaves old e (reply.Refused r) new =
-    RefusedBy (reads_pages (call_of e)) (starts_one (call_of e)) (writes_out (call_of e)) old r new
+    RefusedBy (reads_pages (call_of e)) (writes_out (call_of e)) (call_of e) old r new
 RefusalLeaves old e _ new = Unit {0}
 
 -- What a call leaves of the lists that may read pages, whatever its device gave: what has begun, or that nothing is there to
@@ -87,9 +87,9 @@ ContentShown old _ new = ⊥
 abbrev pub BegunSay : {P L : Type 0} → OpenStore P L → Event → Reply → OpenStore P L → Type 0
 BegunSay old (event.StartSend txn sender tag body) r new = StartBegan (IsSendBegun old.state txn sender tag body.items) r new
 BegunSay old (event.StartReceive txn) r new =
-    TakeBegan old (λ sub s. (sender : ℕ) × IsTakeBegun old.state txn sender sub s) (TakeSays old.state txn None) r new
+    TakeBegan old (λ sub s. (sender : ℕ) × IsTakeBegun old.state txn sender (Start_receive txn) sub s) (TakeSays old.state txn None) r new
 BegunSay old (event.StartReceiveFrom txn sender) r new =
-    TakeBegan old (IsTakeBegun old.state txn sender) (TakeFromSays old.state txn sender None) r new
+    TakeBegan old (IsTakeBegun old.state txn sender (Start_receive_from txn sender)) (TakeFromSays old.state txn sender None) r new
 BegunSay old (event.StartClose txn sender) r new = StartBegan (IsCloseBegun old.state txn sender) r new
 BegunSay old (event.StartMark txn client tag) r new = StartBegan (IsMarkBegun old.state txn client tag) r new
 BegunSay old (event.UndoNext txn) r new = UndoBegan old txn r new

@@ -1,14 +1,18 @@
 -- What a call that may read pages, and write others out, makes of an open store.
-use Rattle.std.specs.Prelude.{◌≡◌, ◌+◌, ◌%◌, ◌^◌, Bool, true, false, Result, Ok, Err}
+use Rattle.std.specs.Prelude.{◌≡◌, ℕ, ◌+◌, ◌%◌, ◌^◌, Bool, true, false, List, Some, Result, Ok, Err}
 use Rattle.rq_model.specs.History.{Call}
 use Rattle.rq_model.specs.History.Call.{Start_send, Start_receive, Start_receive_from, Start_close, Start_mark, Undo_next, Show}
 use Rattle.rq_model.specs.declared.refusal.Refusal.{Refusal}
 use Rattle.rq_model.specs.declared.refusal.Refusal.TheVariants as why
+use Rattle.rq_model.specs.Tests.{NoneHolds, first_of}
+use Rattle.rq_disk.specs.Device.{PageAsk}
+use Rattle.rq_disk.specs.Device.PageAsk.{Reads, Writes}
 use Rattle.rq_disk.specs.declared.device.PageDevice as page_device
-use Rattle.rq_pool.specs.KeptUp.{IsKeptUp}
+use Rattle.rq_pool.specs.KeptUp.{IsForced, IsKeptUp}
 use Rattle.rq_pool.specs.Reading.{OnlyRead}
 use Rattle.rq_store.specs.State.{State}
 use Rattle.rq_engine.specs.Opened.{OpenStore, pooled}
+use Rattle.rq_engine.specs.Tested.{tested}
 use Rattle.rq_engine.specs.declared.event.Reply.{Reply}
 use Rattle.rq_engine.specs.declared.event.Reply.TheVariants as reply
 
@@ -40,43 +44,58 @@ abbrev pub OfStart : Bool → Type 0 → Type 0
 OfStart true left = left
 OfStart false left = ⊥
 
--- What is left of the lists where such a call was refused. Behind its tests it has perhaps read pages. A device that failed as a
--- start wrote a page out stops the store. A test that refuses leaves all as it was, the devices too.
-abbrev pub RefusedButRead : {P L : Type 0} → (starts : Bool) → OpenStore P L → Refusal → OpenStore P L → Type 0
-RefusedButRead starts old why.DiskWrite new = OfStart starts (AreButRead (record old.state { failed = true }) new.state)
-RefusedButRead starts old why.DiskRead new = AreButRead old.state new.state
-RefusedButRead starts old (why.Damaged d) new = AreButRead old.state new.state
-RefusedButRead starts old why.Latched new = OfStart starts (AreButRead old.state new.state)
-RefusedButRead starts old why.PoolFull new = OfStart starts (AreButRead old.state new.state)
-RefusedButRead starts old why.NoMemory new = AreButRead old.state new.state
-RefusedButRead starts old _ new = new ≡ old
+-- What is left where such a call was refused. The first of its tests that holds leaves all as it was, the devices too. Behind its
+-- tests it has perhaps read pages, and a device that failed as a start wrote a page out stops the store.
+abbrev pub RefusedBehind : {P L : Type 0} → (starts : Bool) → List (Bool × Refusal) → OpenStore P L → Refusal → OpenStore P L
+    → Type 0
+RefusedBehind starts tests old why.DiskWrite new =
+    NoneHolds tests × OfStart starts (AreButRead (record old.state { failed = true }) new.state)
+RefusedBehind starts tests old why.DiskRead new = NoneHolds tests × AreButRead old.state new.state
+RefusedBehind starts tests old (why.Damaged d) new = NoneHolds tests × AreButRead old.state new.state
+RefusedBehind starts tests old why.Latched new = NoneHolds tests × OfStart starts (AreButRead old.state new.state)
+RefusedBehind starts tests old why.PoolFull new = NoneHolds tests × OfStart starts (AreButRead old.state new.state)
+RefusedBehind starts tests old why.NoMemory new = NoneHolds tests × AreButRead old.state new.state
+RefusedBehind starts tests old r new = (first_of tests ≡ Some r) × (new ≡ old)
 
--- How often the pages' device has failed where a call was refused: once more, where it is told, else as often as before.
-abbrev pub RefusalCounts : {P : Type 0} → page_device.Ghosts P → Refusal → P → P → Type 0
-RefusalCounts g why.DiskRead old new = g.faults new ≡ (g.faults old + 1) % 2 ^ 64
-RefusalCounts g why.DiskWrite old new = g.faults new ≡ (g.faults old + 1) % 2 ^ 64
-RefusalCounts g _ old new = g.faults new ≡ g.faults old
+abbrev pub RefusedButRead : {P L : Type 0} → Call → OpenStore P L → Refusal → OpenStore P L → Type 0
+RefusedButRead c old r new = RefusedBehind (starts_one c) (tested old.state c) old r new
 
-abbrev pub AnswerCounts : {P X : Type 0} → page_device.Ghosts P → Result X Refusal → P → P → Type 0
-AnswerCounts g (Ok x) old new = g.faults new ≡ g.faults old
+-- The device failed once: in a call that was asked this.
+pub record HasFailed {P : Type 0} (g : page_device.Ghosts P) (ask : PageAsk) (old new : P) : Type 0 where
+  pub once : g.faults new ≡ (g.faults old + 1) % 2 ^ 64
+  -- the device as that call found it
+  pub before : P
+  pub none : g.faults before ≡ g.faults old
+  pub excused : g.excuse ask before new
+
+-- How often the pages' device has failed where a call was refused: as often as before, but where it is told that a page was not
+-- read, or not written out. Such a page still counts as changed, and its last record is forced.
+abbrev pub RefusalCounts : {P L : Type 0} → page_device.Ghosts P → Refusal → OpenStore P L → OpenStore P L → Type 0
+RefusalCounts g why.DiskRead old new = (page : ℕ) × HasFailed g (Reads page) old.pages new.pages
+RefusalCounts g why.DiskWrite old new = (page : ℕ) × (image : List ℕ) × IsForced g old.state.forced (pooled new) page image
+    × HasFailed g (Writes page image) old.pages new.pages
+RefusalCounts g _ old new = g.faults new.pages ≡ g.faults old.pages
+
+abbrev pub AnswerCounts : {P L X : Type 0} → page_device.Ghosts P → Result X Refusal → OpenStore P L → OpenStore P L → Type 0
+AnswerCounts g (Ok x) old new = g.faults new.pages ≡ g.faults old.pages
 AnswerCounts g (Err r) old new = RefusalCounts g r old new
 
-abbrev pub ReplyCounts : {P : Type 0} → page_device.Ghosts P → Reply → P → P → Type 0
+abbrev pub ReplyCounts : {P L : Type 0} → page_device.Ghosts P → Reply → OpenStore P L → OpenStore P L → Type 0
 ReplyCounts g (reply.Refused r) old new = RefusalCounts g r old new
-ReplyCounts g _ old new = g.faults new ≡ g.faults old
+ReplyCounts g _ old new = g.faults new.pages ≡ g.faults old.pages
 
 -- The devices of a store of which pages were read, and others written out. The log's is left alone.
 abbrev pub KeepsDevices : {P L : Type 0} → page_device.Ghosts P → OpenStore P L → OpenStore P L → Type 0
 KeepsDevices g old new = IsKeptUp g old.state.forced (pooled old) (pooled new) × (new.log ≡ old.log)
     × (new.replacing ≡ old.replacing)
 
--- And its lists are as they were, and no device failed. Where the call starts nothing, pages were only read, and where it reads
--- none, all is as it was.
+-- And its lists are as they were, and no device failed. Where the call starts nothing, pages were only read and count as changed as
+-- before, and where it reads none, all is as it was.
 pub record KeepsUp {P L : Type 0} (g : page_device.Ghosts P) (c : Call) (old new : OpenStore P L) : Type 0 where
   pub devices : KeepsDevices g old new
   pub lists : AreButRead old.state new.state
   pub faults : g.faults new.pages ≡ g.faults old.pages
-  pub read : starts_one c ≡ false → OnlyRead g old.pages new.pages
+  pub read : starts_one c ≡ false → OnlyRead g old.pages new.pages × (new.changed ≡ old.changed)
   pub still : reads_pages c ≡ false → new ≡ old
 
 -- what is told of lists where pages were perhaps read again: what a device that is honest gives
@@ -86,7 +105,7 @@ OnRead false honest told = told
 
 -- the pages' device as a call leaves it that may read pages and write others out, and as any other does
 abbrev pub PagesStay : {P L : Type 0} → Bool → page_device.Ghosts P → OpenStore P L → Reply → OpenStore P L → Type 0
-PagesStay true g old r new = IsKeptUp g old.state.forced (pooled old) (pooled new) × ReplyCounts g r old.pages new.pages
+PagesStay true g old r new = IsKeptUp g old.state.forced (pooled old) (pooled new) × ReplyCounts g r old new
 PagesStay false g old r new = new.pages ≡ old.pages
 
 -- and which pages count as changed: those that are written out do no more, which is said with them

@@ -1,4 +1,5 @@
 pub mod Opened
+pub mod Tested
 pub mod KeptUp
 pub mod Earlier
 pub mod Says

@@ -6,7 +6,11 @@ use Rattle.rq_model.specs.declared.record.Deed.{Deed}
 use Rattle.rq_model.specs.declared.record.Record.TheVariants.{Commit}
 use Rattle.rq_model.specs.declared.txn.Sub.{Sub}
 use Rattle.rq_model.specs.declared.txn.Txn.{Txn}
+use Rattle.rq_model.specs.History.{Call}
+use Rattle.rq_model.specs.History.Call.{Start_send, Start_close, Start_mark}
 use Rattle.rq_model.specs.Replay.{receipt}
+use Rattle.rq_model.specs.Tests.{NoneHolds}
+use Rattle.rq_model.specs.Vocabulary.{message_of}
 use Rattle.rq_page.specs.Sizes.{client_count, sender_count}
 use Rattle.rq_views.specs.Stored.{slots_in}
 use Rattle.rq_level.specs.declared.writes.SlotWrite.{SlotWrite}
@@ -36,6 +40,7 @@ use Rattle.rq_engine.specs.Marks.{IsMarkPlan}
 use Rattle.rq_engine.specs.Answers.{IsUnderWay, IsMade, HasNothingUnderWay}
 use Rattle.rq_engine.specs.Moves.{with_sends, with_tags, without_taken}
 use Rattle.rq_engine.specs.Says.{outcome_of, receipt_of}
+use Rattle.rq_engine.specs.Tested.{tested}
 use Rattle.rq_engine.specs.declared.event.ClientTag.{ClientTag}
 use Rattle.rq_engine.specs.declared.event.CommitNo.{CommitNo}
 use Rattle.rq_engine.specs.declared.event.Event.{Event}
@@ -91,26 +96,30 @@ IsMarkStarted old t client tag sub new =
     (sub.txn ≡ t) × IsStarted old sub (Marking client) old.cells_in_use
     (λ u. IsMarkPlan old.sizes (slots_in old.sizes old.images) u client tag) new
 
--- ---- what has begun, whatever the device gave of pages that were read
+-- ---- what has begun, whatever the device gave of pages that were read; no test of it holds
 
 -- the operation is to do what was asked, and nothing of it is made
 abbrev pub DoesTask : Task → Under → Type 0
 DoesTask task u = (u.made ≡ 0) × (deed : Deed) × (u.aim ≡ Doing deed) × IsDeedFor task deed
 
 abbrev pub IsSendBegun : State → Txn → ℕ → ℕ → List ℕ → Sub → State → Type 0
-IsSendBegun old t sender tag body sub new = (sub.txn ≡ t)
+IsSendBegun old t sender tag body sub new =
+    (sub.txn ≡ t) × NoneHolds (tested old (Start_send t (message_of sender tag body)))
     × IsStarted old sub (Sending sender) (old.cells_in_use + 1) (DoesTask (Chain (Send sender tag body))) (with_images_of old new)
 
-abbrev pub IsTakeBegun : State → Txn → ℕ → Sub → State → Type 0
-IsTakeBegun old t sender sub new = (sub.txn ≡ t) × WaitsFor old t sender
+abbrev pub IsTakeBegun : State → Txn → ℕ → Call → Sub → State → Type 0
+IsTakeBegun old t sender c sub new =
+    (sub.txn ≡ t) × NoneHolds (tested old c) × WaitsFor old t sender
     × IsStarted old sub (Receiving sender) old.cells_in_use (DoesTask (Chain (Receive sender))) (with_images_of old new)
 
 abbrev pub IsCloseBegun : State → Txn → ℕ → Sub → State → Type 0
-IsCloseBegun old t sender sub new = (sub.txn ≡ t)
+IsCloseBegun old t sender sub new =
+    (sub.txn ≡ t) × NoneHolds (tested old (Start_close t sender))
     × IsStarted old sub (Sending sender) old.cells_in_use (DoesTask (Chain (Close sender))) (with_images_of old new)
 
 abbrev pub IsMarkBegun : State → Txn → ℕ → ℕ → Sub → State → Type 0
-IsMarkBegun old t client tag sub new = (sub.txn ≡ t)
+IsMarkBegun old t client tag sub new =
+    (sub.txn ≡ t) × NoneHolds (tested old (Start_mark t client tag))
     × IsStarted old sub (Marking client) old.cells_in_use (DoesTask (Tag (record { client = client; tag = tag })))
     (with_images_of old new)
 

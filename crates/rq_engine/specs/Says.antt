@@ -169,7 +169,7 @@ PagesSay g old new (event.WritePage page) r = DeviceAfter g page (image_at old.s
     (written_by r)
 PagesSay g old new event.Checkpoint r = Unit {0}
 PagesSay g old new (event.Migrate pages) r = Unit {0}
-PagesSay g old new event.Content r = IsShown g old new × ReplyCounts g r old.pages new.pages
+PagesSay g old new event.Content r = IsShown g old new × ReplyCounts g r old new
 PagesSay g old new e r = PagesStay (starts_one (call_of e)) g old r new
 
 -- when a page is written, or is not

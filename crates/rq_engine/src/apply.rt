@@ -45,11 +45,11 @@ impl<P: PageDevice, L: LogDevice, B: Level> Engine<P, L, B> {
         ensures shown { OnOk result (AreButRead self.old.state self.new.state) }
         // Pages are perhaps read: the device reads as before, and a crash leaves nothing more of it.
         ensures pages { IsShown P.PageDevice self.old self.new }
-        ensures faults { AnswerCounts P.PageDevice result self.old.pages self.new.pages }
+        ensures faults { AnswerCounts P.PageDevice result self.old self.new }
         ensures changed { self.new.changed ≡ self.old.changed }
         ensures log { self.new.log ≡ self.old.log }
         ensures replacing { self.new.replacing ≡ self.old.replacing }
-        ensures refused { IfErr result (λ r. RefusedButRead false self.old r self.new) }
+        ensures refused { IfErr result (λ r. RefusedButRead Show self.old r self.new) }
         ensures failed { (result ≡ Err Refusal.Failed) ↔ (self.old.state.failed ≡ true) }
     {
         self.check_running()?;
@@ -68,8 +68,8 @@ impl<P: PageDevice, L: LogDevice, B: Level> Engine<P, L, B> {
     /// may leave its one record instead, and a migration that with the tag pages.
     pub fn apply(&mut self, event: &Event) -> Reply
         ensures applied { Applied P.PageDevice L.LogDevice self.old event.now result self.new }
-        // Behind a reply that memory is wanting for, or that shows the content, pages were perhaps read. Of a start others were
-        // perhaps written out. The lists are as they were, and the log's device. All is, where the call reads no page.
+        // Where memory is wanting, or the content is shown, pages were perhaps read, and of a start others written out. The log's
+        // device is as it was, and so are the lists but for images of pages that were read. All is, where the call reads none.
         ensures no_memory { result ≡ Reply.Refused Refusal.NoMemory
             → KeepsUp P.PageDevice (call_of event.now) self.old self.new }
         ensures content { IsContent result → KeepsUp P.PageDevice (call_of event.now) self.old self.new }

@@ -15,6 +15,7 @@ ghost use Rattle.rq_engine.specs.KeptUp.{AnswerCounts, KeepsDevices, RefusedButR
 ghost use Rattle.rq_engine.specs.Answers.{AnswersLegally, RefusesOver};
 ghost use Rattle.rq_engine.specs.Applied.{OnLatched, StartsUnlatched};
 ghost use Rattle.rq_engine.specs.Lists.{IsCloseBegun, IsCloseStarted};
+ghost use Rattle.rq_engine.specs.Tested.{tested};
 
 use crate::engine::Engine;
 use rq_disk::{LogDevice, PageDevice};
@@ -41,8 +42,8 @@ impl<P: PageDevice, L: LogDevice, B: Level> Engine<P, L, B> {
         ensures latched { (e : List Record) → IsEarlier e self.old.state → IsSound (on e self.old.state)
             → StartsUnlatched (on e self.old.state) (Start_close txn sender) result }
         ensures devices { KeepsDevices P.PageDevice self.old self.new }
-        ensures faults { AnswerCounts P.PageDevice result self.old.pages self.new.pages }
-        ensures refused { IfErr result (λ r. RefusedButRead true self.old r self.new) }
+        ensures faults { AnswerCounts P.PageDevice result self.old self.new }
+        ensures refused { IfErr result (λ r. RefusedButRead (Start_close txn sender) self.old r self.new) }
         ensures failed { (result ≡ Err Refusal.Failed) ↔ (self.old.state.failed ≡ true) }
     {
         let number = self.check_open(txn)?;
@@ -68,6 +69,10 @@ impl<P: PageDevice, L: LogDevice, B: Level> Engine<P, L, B> {
         ensures plain { IfErr result (λ r. r ≢ Refusal.Failed) }
         ensures unlatched { IfErr result (λ r. OnLatched ⊥ r) }
         ensures tests { IfErr result (λ r. IsTrue (without_pages r)) }
+        ensures leaves { NoneHolds (ready_tests (ledger_of self.now.state) txn false)
+            → IfErr result (λ r. RefusedButRead (Start_close txn sender) self.now r self.now) }
+        ensures tested { NoneHolds (ready_tests (ledger_of self.now.state) txn false)
+            → OnOk result (NoneHolds (tested self.now.state (Start_close txn sender))) }
         ensures sender { OnOk result (sender < sender_count self.now.state.sizes) }
         ensures free { OnOk result (is_free_for txn sender self.now.state.ends.sending ≡ true) }
         ensures log { OnOk result (log_full (ledger_of self.now.state) 2 ≡ false) }

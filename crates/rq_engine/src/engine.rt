@@ -114,7 +114,7 @@ impl<P: PageDevice, L: LogDevice, B: Level> Model for Engine<P, L, B> {
 
 impl<P: PageDevice + Drop, L: LogDevice + Drop, B: Level> Engine<P, L, B> {
     /// The engine of a store whose log ends with the Restart record of this incarnation, with a planner that was told of
-    /// each cell.
+    /// each slot that its levels keep anything of.
     pub fn open(
         alloc: Global,
         pages: Pages<P>,

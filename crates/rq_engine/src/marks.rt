@@ -15,6 +15,7 @@ ghost use Rattle.rq_engine.specs.Answers.{AnswersLegally, RefusesOver};
 ghost use Rattle.rq_engine.specs.Applied.{OnLatched, StartsUnlatched};
 ghost use Rattle.rq_engine.specs.Lists.{IsMarkBegun, IsMarkStarted};
 ghost use Rattle.rq_engine.specs.Plans.{IsWithin};
+ghost use Rattle.rq_engine.specs.Tested.{tested};
 
 use crate::engine::Engine;
 use rq_disk::{LogDevice, PageDevice};
@@ -41,8 +42,8 @@ impl<P: PageDevice, L: LogDevice, B: Level> Engine<P, L, B> {
         ensures latched { (e : List Record) → IsEarlier e self.old.state → IsSound (on e self.old.state)
             → StartsUnlatched (on e self.old.state) (Start_mark txn client tag) result }
         ensures devices { KeepsDevices P.PageDevice self.old self.new }
-        ensures faults { AnswerCounts P.PageDevice result self.old.pages self.new.pages }
-        ensures refused { IfErr result (λ r. RefusedButRead true self.old r self.new) }
+        ensures faults { AnswerCounts P.PageDevice result self.old self.new }
+        ensures refused { IfErr result (λ r. RefusedButRead (Start_mark txn client tag) self.old r self.new) }
         ensures failed { (result ≡ Err Refusal.Failed) ↔ (self.old.state.failed ≡ true) }
     {
         let number = self.check_open(txn)?;
@@ -68,6 +69,10 @@ impl<P: PageDevice, L: LogDevice, B: Level> Engine<P, L, B> {
         ensures plain { IfErr result (λ r. r ≢ Refusal.Failed) }
         ensures unlatched { IfErr result (λ r. OnLatched ⊥ r) }
         ensures tests { IfErr result (λ r. IsTrue (without_pages r)) }
+        ensures leaves { (tag : ℕ) → NoneHolds (ready_tests (ledger_of self.now.state) txn false)
+            → IfErr result (λ r. RefusedButRead (Start_mark txn client tag) self.now r self.now) }
+        ensures tested { (tag : ℕ) → NoneHolds (ready_tests (ledger_of self.now.state) txn false)
+            → OnOk result (NoneHolds (tested self.now.state (Start_mark txn client tag))) }
         ensures client { (tag : ℕ) → OnOk result (IsWithin self.now.state.sizes (Tag (record { client = client; tag = tag }))) }
         ensures free { OnOk result (is_free_for txn (client_group client) self.now.state.ends.sending ≡ true) }
         ensures log { OnOk result (log_full (ledger_of self.now.state) 2 ≡ false) }

@@ -40,14 +40,14 @@ impl<P: PageDevice, L: LogDevice, B: Level> Engine<P, L, B> {
         ensures sub { IfOk result (λ begun. IfSome begun (λ sub. sub.txn ≡ txn)) }
         ensures lists { P.honest self.new.pages → IfOk result (λ begun. TakeSays self.old.state txn begun self.new.state) }
         ensures begun { IfOk result (λ begun. IfSome begun
-            (λ sub. (sender : ℕ) × IsTakeBegun self.old.state txn sender sub self.new.state)) }
+            (λ sub. (sender : ℕ) × IsTakeBegun self.old.state txn sender (Start_receive txn) sub self.new.state)) }
         ensures none { IfOk result (λ begun. IfNone begun
             ((self.new ≡ self.old) × TakeSays self.old.state txn None self.new.state)) }
         ensures latched { P.honest self.new.pages → (e : List Record) → IsEarlier e self.old.state → IsSound (on e self.old.state)
             → TakesUnlatched (on e self.old.state) (Start_receive txn) result }
         ensures devices { KeepsDevices P.PageDevice self.old self.new }
-        ensures faults { AnswerCounts P.PageDevice result self.old.pages self.new.pages }
-        ensures refused { IfErr result (λ r. RefusedButRead true self.old r self.new) }
+        ensures faults { AnswerCounts P.PageDevice result self.old self.new }
+        ensures refused { IfErr result (λ r. RefusedButRead (Start_receive txn) self.old r self.new) }
         ensures failed { (result ≡ Err Refusal.Failed) ↔ (self.old.state.failed ≡ true) }
     {
         let number = self.check_open(txn)?;
@@ -77,14 +77,14 @@ impl<P: PageDevice, L: LogDevice, B: Level> Engine<P, L, B> {
         ensures lists { P.honest self.new.pages
             → IfOk result (λ begun. TakeFromSays self.old.state txn sender begun self.new.state) }
         ensures begun { IfOk result (λ begun. IfSome begun
-            (λ sub. IsTakeBegun self.old.state txn sender sub self.new.state)) }
+            (λ sub. IsTakeBegun self.old.state txn sender (Start_receive_from txn sender) sub self.new.state)) }
         ensures none { IfOk result (λ begun. IfNone begun
             ((self.new ≡ self.old) × TakeFromSays self.old.state txn sender None self.new.state)) }
         ensures latched { P.honest self.new.pages → (e : List Record) → IsEarlier e self.old.state → IsSound (on e self.old.state)
             → TakesUnlatched (on e self.old.state) (Start_receive_from txn sender) result }
         ensures devices { KeepsDevices P.PageDevice self.old self.new }
-        ensures faults { AnswerCounts P.PageDevice result self.old.pages self.new.pages }
-        ensures refused { IfErr result (λ r. RefusedButRead true self.old r self.new) }
+        ensures faults { AnswerCounts P.PageDevice result self.old self.new }
+        ensures refused { IfErr result (λ r. RefusedButRead (Start_receive_from txn sender) self.old r self.new) }
         ensures failed { (result ≡ Err Refusal.Failed) ↔ (self.old.state.failed ≡ true) }
     {
         let number = self.check_open(txn)?;

@@ -15,6 +15,7 @@ ghost use Rattle.rq_engine.specs.Answers.{AnswersLegally, IsUnderWay, RefusesOve
 ghost use Rattle.rq_engine.specs.Applied.{OnLatched, StartsUnlatched};
 ghost use Rattle.rq_engine.specs.Lists.{IsSendBegun, IsSendStarted};
 ghost use Rattle.rq_engine.specs.Sends.{TakesLowest};
+ghost use Rattle.rq_engine.specs.Tested.{tested};
 
 use crate::engine::Engine;
 use rq_disk::{LogDevice, PageDevice};
@@ -49,8 +50,8 @@ impl<P: PageDevice, L: LogDevice, B: Level> Engine<P, L, B> {
         ensures latched { P.honest self.new.pages → (e : List Record) → IsEarlier e self.old.state → IsSound (on e self.old.state)
             → StartsUnlatched (on e self.old.state) (Start_send txn (message_of sender tag body.now)) result }
         ensures devices { KeepsDevices P.PageDevice self.old self.new }
-        ensures faults { AnswerCounts P.PageDevice result self.old.pages self.new.pages }
-        ensures refused { IfErr result (λ r. RefusedButRead true self.old r self.new) }
+        ensures faults { AnswerCounts P.PageDevice result self.old self.new }
+        ensures refused { IfErr result (λ r. RefusedButRead (Start_send txn (message_of sender tag body.now)) self.old r self.new) }
         ensures failed { (result ≡ Err Refusal.Failed) ↔ (self.old.state.failed ≡ true) }
     {
         let number = self.check_open(txn)?;
@@ -81,6 +82,10 @@ impl<P: PageDevice, L: LogDevice, B: Level> Engine<P, L, B> {
         ensures plain { IfErr result (λ r. r ≢ Refusal.Failed) }
         ensures unlatched { IfErr result (λ r. OnLatched ⊥ r) }
         ensures tests { IfErr result (λ r. IsTrue (without_pages r)) }
+        ensures leaves { NoneHolds (ready_tests (ledger_of self.now.state) txn false) → IfErr result (λ r. RefusedButRead
+            (Start_send txn (message_of sender tag body.now)) self.now r self.now) }
+        ensures tested { NoneHolds (ready_tests (ledger_of self.now.state) txn false)
+            → OnOk result (NoneHolds (tested self.now.state (Start_send txn (message_of sender tag body.now)))) }
         ensures short { OnOk result (length body.now ≤ 216) }
         ensures sender { OnOk result (sender < sender_count self.now.state.sizes) }
         ensures free { OnOk result (is_free_for txn sender self.now.state.ends.sending ≡ true) }

@@ -59,8 +59,8 @@ impl<P: PageDevice, L: LogDevice, B: Level> Engine<P, L, B> {
         ensures latched { P.honest self.new.pages → (e : List AnyRecord) → IsEarlier e self.old.state → IsSound (on e self.old.state)
             → TakesUnlatched (on e self.old.state) (Undo_next txn) result }
         ensures devices { KeepsDevices P.PageDevice self.old self.new }
-        ensures faults { AnswerCounts P.PageDevice result self.old.pages self.new.pages }
-        ensures refused { IfErr result (λ r. RefusedButRead true self.old r self.new) }
+        ensures faults { AnswerCounts P.PageDevice result self.old self.new }
+        ensures refused { IfErr result (λ r. RefusedButRead (Undo_next txn) self.old r self.new) }
         ensures failed { (result ≡ Err Refusal.Failed) ↔ (self.old.state.failed ≡ true) }
     {
         let number = self.check_aborting(txn)?;

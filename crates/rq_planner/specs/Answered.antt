@@ -107,7 +107,7 @@ pub record IsPlannedAlone (z : Sizes) (images : List (List ℕ)) (levels : List 
 
 -- ---- plans
 
--- the deed is what is asked for, its numbers aside, which the store tells
+-- the deed is what is asked for; what else is in it the store tells
 abbrev pub IsDeedFor : Task → Deed → Type 0
 IsDeedFor (Chain (Send g tag body)) (Append h n t previous b) = (h ≡ g) × (t ≡ tag) × (b ≡ body)
 IsDeedFor (Chain (Receive g)) (UnlinkHead h n tag body) = h ≡ g

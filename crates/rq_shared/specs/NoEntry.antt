@@ -6,8 +6,8 @@ use Rattle.rq_engine.specs.Says.{call_of}
 use Rattle.rq_engine.specs.declared.event.Event.{Event}
 use Rattle.rq_shared.specs.Entries.{Audited}
 
--- Pages of the engine were perhaps read, and others written out; where the call reads none, it is as it was. So are its audit, what
--- that begins with, and how much was taken before.
+-- Pages of the engine were perhaps read, and of a start others written out; where the call reads none, it is as it was. So are its
+-- audit, what that begins with, and how much was taken before.
 pub record LeavesNone {P L : Type 0} (p : page_device.Ghosts P) (e : Event) (old new : Audited P L) : Type 0 where
   pub engine : KeepsUp p (call_of e) old.engine new.engine
   pub audit : new.audit ≡ old.audit

@@ -150,8 +150,8 @@ impl<P: PageDevice + Drop, L: LogDevice + Drop, B: Level> Kept<P, L, B> {
     }
 
     /// Makes the call that the event stands for, and answers a stamp of it. It leaves one entry, which says
-    /// what the stamp says. Where it is answered `NoMemory` it leaves none. A start or a content has perhaps read pages then, and
-    /// written others out. Any other call has changed nothing.
+    /// what the stamp says. Where it is answered `NoMemory` it leaves none. A start has perhaps read pages then, and written others
+    /// out; a content has perhaps read some. Any other call has changed nothing.
     pub fn step(&mut self, pass: u64, event: Event) -> Stamped
         ensures pass { result.pass ≡ pass }
         ensures event { result.event ≡ event }

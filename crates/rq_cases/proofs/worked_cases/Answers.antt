@@ -6,6 +6,7 @@ use Rattle.rq_cases.proofs.Checkpoints.{checkpoints}
 use Rattle.rq_cases.proofs.Courses.{causes, stops}
 use Rattle.rq_cases.proofs.Crashes.{runs}
 use Rattle.rq_cases.proofs.Formatting.{formats}
+use Rattle.rq_cases.proofs.KeptUp.{starts}
 use Rattle.rq_cases.proofs.RollingBack.{rolls_back}
 use Rattle.rq_cases.proofs.Openings.{beginnings, checks, refusals}
 use Rattle.rq_cases.proofs.Replies.{receipts}
@@ -18,6 +19,7 @@ pub returns : goal.returns
 returns c = record {
   run_is_sound = run;
   calls_are_applied = applied;
+  starts_are_judged = starts;
   worlds_are_judged = worlds;
   checkpoints_are_judged = checkpoints;
   cuts_are_judged = cuts;

@@ -1,10 +1,12 @@
-use Rattle.std.proofs.Common.{ap}
+use Rattle.std.proofs.Common.{List, ap, refl, subst, ℕ}
 use Rattle.rq_engine.specs.Says.{call_of}
 use Rattle.rq_engine.specs.declared.event.Event.{Event}
 use Rattle.rq_model.specs.Causes.{writes_out}
 use Rattle.rq_engine.proofs.Applying.{not_leaves}
-use Rattle.rq_engine.specs.KeptUp.{reads_pages, starts_one}
-use Rattle.rq_engine.proofs.Leaving.{plain_leaves, begun_leaves, start_leaves, take_begins, take_counts, undo_begins, undo_counts, undo_leaves}
+use Rattle.rq_engine.specs.KeptUp.{RefusedButRead, reads_pages}
+use Rattle.rq_model.specs.History.Call.{Start_send}
+use Rattle.rq_model.specs.Vocabulary.{message_of}
+use Rattle.rq_engine.proofs.Leaving.{plain_leaves, begun_leaves, take_begins, take_counts, undo_begins, undo_counts, undo_leaves}
 use Rattle.rq_engine.proofs.Listing.{begun_answered, take_lists, take_from_lists, log_left, undo_answered, undo_lists}
 use Rattle.rq_engine.proofs.engine.Engine.call.Goals as goal
 
@@ -12,7 +14,8 @@ pub returns-in-Err-clause-refused : goal.returns-in-Err-clause-refused
 returns-in-Err-clause-refused g c = plain_leaves c.args.self.now c.begin.new.self c.args.event.now _ (ap (λ (e : Event). reads_pages (call_of e)) c.in-Begin.is) (ap (λ (e : Event). writes_out (call_of e)) c.in-Begin.is) c.in-Err.ensures.refused
 
 pub returns-in-Err-start_send-clause-refused : goal.returns-in-Err-start_send-clause-refused
-returns-in-Err-start_send-clause-refused g c = start_leaves c.args.self.now c.start_send.new.self c.args.event.now _ (ap (λ (e : Event). reads_pages (call_of e)) c.in-StartSend.is) (ap (λ (e : Event). starts_one (call_of e)) c.in-StartSend.is) c.in-Err-start_send.ensures.refused
+returns-in-Err-start_send-clause-refused g c =
+    rw (c.in-StartSend.is) (subst (λ (b : List ℕ). RefusedButRead (Start_send c.in-StartSend.txn (message_of c.in-StartSend.sender c.in-StartSend.tag b)) c.args.self.now c.in-Err-start_send.refusal c.start_send.new.self) c.deref.ensures.value c.in-Err-start_send.ensures.refused)
 
 pub returns-in-Err-step-clause-refused : goal.returns-in-Err-step-clause-refused
 returns-in-Err-step-clause-refused g c = plain_leaves c.args.self.now c.step.new.self c.args.event.now _ (ap (λ (e : Event). reads_pages (call_of e)) c.in-Step.is) (ap (λ (e : Event). writes_out (call_of e)) c.in-Step.is) c.in-Err-step.ensures.refused
@@ -27,10 +30,10 @@ pub returns-in-Err-content-clause-refused : goal.returns-in-Err-content-clause-r
 returns-in-Err-content-clause-refused g c = rw (c.in-Content.is) c.in-Err-content.ensures.refused
 
 pub returns-in-StartReceive-clause-refused : goal.returns-in-StartReceive-clause-refused
-returns-in-StartReceive-clause-refused g c = begun_leaves c.args.self.now c.start_receive.new.self c.args.event.now c.start_receive.result _ (ap (λ (e : Event). reads_pages (call_of e)) c.in-StartReceive.is) (ap (λ (e : Event). starts_one (call_of e)) c.in-StartReceive.is) c.start_receive.ensures.refused c.receive_reply.ensures
+returns-in-StartReceive-clause-refused g c = begun_leaves c.args.self.now c.start_receive.new.self c.args.event.now _ c.start_receive.result _ (ap call_of c.in-StartReceive.is) refl c.start_receive.ensures.refused c.receive_reply.ensures
 
 pub returns-in-StartReceiveFrom-clause-refused : goal.returns-in-StartReceiveFrom-clause-refused
-returns-in-StartReceiveFrom-clause-refused g c = begun_leaves c.args.self.now c.start_receive_from.new.self c.args.event.now c.start_receive_from.result _ (ap (λ (e : Event). reads_pages (call_of e)) c.in-StartReceiveFrom.is) (ap (λ (e : Event). starts_one (call_of e)) c.in-StartReceiveFrom.is) c.start_receive_from.ensures.refused c.receive_reply-in-StartReceiveFrom.ensures
+returns-in-StartReceiveFrom-clause-refused g c = begun_leaves c.args.self.now c.start_receive_from.new.self c.args.event.now _ c.start_receive_from.result _ (ap call_of c.in-StartReceiveFrom.is) refl c.start_receive_from.ensures.refused c.receive_reply-in-StartReceiveFrom.ensures
 
 pub returns-in-StartReceive-clause-lists : goal.returns-in-StartReceive-clause-lists
 returns-in-StartReceive-clause-lists g c = take_lists c.args.self.now.state _ c.start_receive.result _ c.args.event.now c.start_receive.new.self.state _ c.in-StartReceive.is c.start_receive.ensures.lists c.receive_reply.ensures
@@ -52,7 +55,7 @@ pub returns-in-Err-end_abort-clause-refused : goal.returns-in-Err-end_abort-clau
 returns-in-Err-end_abort-clause-refused g c = plain_leaves c.args.self.now c.end_abort.new.self c.args.event.now _ (ap (λ (e : Event). reads_pages (call_of e)) c.in-EndAbort.is) (ap (λ (e : Event). writes_out (call_of e)) c.in-EndAbort.is) c.in-Err-end_abort.ensures.refused
 
 pub returns-in-UndoNext-clause-refused : goal.returns-in-UndoNext-clause-refused
-returns-in-UndoNext-clause-refused g c = undo_leaves c.args.self.now c.undo_next.new.self c.args.event.now c.undo_next.result _ (ap (λ (e : Event). reads_pages (call_of e)) c.in-UndoNext.is) (ap (λ (e : Event). starts_one (call_of e)) c.in-UndoNext.is) c.undo_next.ensures.refused c.undoing.ensures
+returns-in-UndoNext-clause-refused g c = undo_leaves c.args.self.now c.undo_next.new.self c.args.event.now _ c.undo_next.result _ (ap call_of c.in-UndoNext.is) refl c.undo_next.ensures.refused c.undoing.ensures
 
 pub returns-in-UndoNext-clause-lists : goal.returns-in-UndoNext-clause-lists
 returns-in-UndoNext-clause-lists g c = undo_lists c.args.self.now.state _ c.undo_next.result _ c.args.event.now c.undo_next.new.self.state _ c.in-UndoNext.is c.undo_next.ensures.lists c.undoing.ensures

@@ -5,6 +5,7 @@ use Rattle.rq_groups.specs.Ends.{is_free_for}
 use Rattle.rq_store.specs.State.{State}
 use Rattle.rq_engine.proofs.MarkCalls.{busy, log_is_full, passes, unknown}
 use Rattle.rq_engine.proofs.Opened.{state_is}
+use Rattle.rq_engine.proofs.Tested.{mark_busy, mark_log_full, mark_tested, mark_unknown}
 use Rattle.rq_engine.specs.Earlier.{on}
 use Rattle.rq_engine.proofs.Earlier.{full_on}
 use Rattle.rq_engine.proofs.engine.Engine.check_mark.Goals as goal
@@ -53,3 +54,29 @@ returns-clause-client g c tag =
 
 pub returns-clause-free : goal.returns-clause-free
 returns-clause-free g c = ap (λ (x : State). is_free_for c.args.txn (client_group c.args.client) x.ends.sending) (sym (state_is c.self.view_is)) ∙ sym c.if-not-may_mark.ensures
+
+pub returns-then-client-clients-clause-leaves : goal.returns-then-client-clients-clause-leaves
+returns-then-client-clients-clause-leaves g c tag h =
+    let n : c.clients.result ≡ client_count c.args.self.now.state.sizes = c.clients.ensures.number ∙ ap client_count (c.layout.ensures.sizes ∙ ap (λ (s : State). s.sizes) (state_is c.self.view_is)) in
+    mark_unknown c.args.self.now c.args.txn h c.args.client tag (let ge = c.if-client-clients.true in omega (arith, n, ge))
+
+pub returns-then-not-may_mark-clause-leaves : goal.returns-then-not-may_mark-clause-leaves
+returns-then-not-may_mark-clause-leaves g c tag h =
+    let n : c.clients.result ≡ client_count c.args.self.now.state.sizes = c.clients.ensures.number ∙ ap client_count (c.layout.ensures.sizes ∙ ap (λ (s : State). s.sizes) (state_is c.self.view_is)) in
+    let lt = c.if-client-clients.false in
+    let below : c.args.client < client_count c.args.self.now.state.sizes = omega (arith, n, lt) in
+    mark_busy c.args.self.now c.args.txn h c.args.client tag below (ap (λ (s : State). is_free_for c.args.txn (client_group c.args.client) s.ends.sending) (sym (state_is c.self.view_is)) ∙ sym c.if-not-may_mark.ensures)
+
+pub returns-then-is_log_full-clause-leaves : goal.returns-then-is_log_full-clause-leaves
+returns-then-is_log_full-clause-leaves g c tag h =
+    let n : c.clients.result ≡ client_count c.args.self.now.state.sizes = c.clients.ensures.number ∙ ap client_count (c.layout.ensures.sizes ∙ ap (λ (s : State). s.sizes) (state_is c.self.view_is)) in
+    let lt = c.if-client-clients.false in
+    let below : c.args.client < client_count c.args.self.now.state.sizes = omega (arith, n, lt) in
+    mark_log_full c.args.self.now c.args.txn h c.args.client tag below (ap (λ (s : State). is_free_for c.args.txn (client_group c.args.client) s.ends.sending) (sym (state_is c.self.view_is)) ∙ sym c.if-not-may_mark.ensures) (sym c.if-is_log_full.ensures)
+
+pub returns-clause-tested : goal.returns-clause-tested
+returns-clause-tested g c tag h =
+    let n : c.clients.result ≡ client_count c.args.self.now.state.sizes = c.clients.ensures.number ∙ ap client_count (c.layout.ensures.sizes ∙ ap (λ (s : State). s.sizes) (state_is c.self.view_is)) in
+    let lt = c.if-client-clients.false in
+    let below : c.args.client < client_count c.args.self.now.state.sizes = omega (arith, n, lt) in
+    mark_tested c.args.self.now c.args.txn h c.args.client tag below (ap (λ (s : State). is_free_for c.args.txn (client_group c.args.client) s.ends.sending) (sym (state_is c.self.view_is)) ∙ sym c.if-not-may_mark.ensures) (sym c.if-is_log_full.ensures)

@@ -1,9 +1,12 @@
-use Rattle.std.proofs.Common.{refl, sym, ap, ◌∙◌}
+use Rattle.std.proofs.Common.{rules, refl, sym, ap, ◌∙◌, []}
 use Rattle.rq_txn.specs.Rows.{any_under}
 use Rattle.rq_store.specs.State.{State}
 use Rattle.rq_engine.proofs.Calls.{content_done, content_busy, content_passes}
 use Rattle.rq_engine.proofs.KeptUp.{content_leaves}
 use Rattle.rq_engine.proofs.Refusals.{no_memory}
+use Rattle.rq_engine.proofs.Tested.{show_busy, show_failed}
+use Rattle.rq_engine.specs.Tested.{tested}
+use Rattle.rq_model.specs.History.Call.{Show}
 use Rattle.rq_engine.proofs.Opened.{state_is}
 use Rattle.rq_engine.specs.Earlier.{on}
 use Rattle.rq_engine.proofs.engine.Engine.content.Goals as goal
@@ -26,13 +29,23 @@ returns-clause-answered g c = elim c.match-content.branch [
 ]
 
 pub returns-clause-refused : goal.returns-clause-refused
-returns-clause-refused g c = elim c.match-content.branch [
-  | in-Ok w ↦ rw (w.result-is) tt
-  | in-Err w ↦ rw (w.result-is) (content_leaves g.P.PageDevice c.args.self.now _ _ _ _ w.in-Err.ensures.refused).0
-]
+returns-clause-refused g c =
+    let idle = ap (λ (s : State). any_under s.rows) (sym (state_is c.self.view_is)) ∙ sym c.if-any_under_way.ensures in
+    elim c.match-content.branch [
+      | in-Ok w ↦ rw (w.result-is) tt
+      | in-Err w ↦ rw (w.result-is) (content_leaves g.P.PageDevice c.args.self.now (tested c.args.self.now.state Show) (c.in_ok-check_running.ensures.running, (idle, tt)) _ _ _ _ w.in-Err.ensures.refused).0
+    ]
 
 pub returns-clause-faults : goal.returns-clause-faults
 returns-clause-faults g c = elim c.match-content.branch [
   | in-Ok w ↦ rw (w.result-is) refl
-  | in-Err w ↦ rw (w.result-is) (content_leaves g.P.PageDevice c.args.self.now _ _ _ _ w.in-Err.ensures.refused).1
+  | in-Err w ↦ rw (w.result-is) (content_leaves g.P.PageDevice c.args.self.now [] tt _ _ _ _ w.in-Err.ensures.refused).1
 ]
+
+pub returns-in_err-check_running-clause-refused : goal.returns-in_err-check_running-clause-refused
+returns-in_err-check_running-clause-refused g c =
+    let left = show_failed c.args.self.now _ c.in_err-check_running.ensures.failed.0 c.in_err-check_running.ensures.failed.1 in
+    search (rules, left)
+
+pub returns-then-any_under_way-clause-refused : goal.returns-then-any_under_way-clause-refused
+returns-then-any_under_way-clause-refused g c = show_busy c.args.self.now c.in_ok-check_running.ensures.running (ap (λ (s : State). any_under s.rows) (sym (state_is c.self.view_is)) ∙ sym c.if-any_under_way.ensures)

@@ -1,4 +1,4 @@
-use Rattle.std.proofs.Common.{refl, ap}
+use Rattle.std.proofs.Common.{rules, refl, ap}
 use Rattle.rq_model.specs.declared.refusal.Refusal.{Refusal}
 use Rattle.rq_model.specs.History.Call.{Start_close}
 use Rattle.rq_groups.specs.declared.End.TheVariants.{Sending}
@@ -19,6 +19,7 @@ use Rattle.rq_engine.proofs.Latches.{close_refused, close_unlatched}
 use Rattle.rq_engine.proofs.Leveled.{close_free, close_held, close_plan, refused_for}
 use Rattle.rq_engine.proofs.Refusals.{no_memory}
 use Rattle.rq_engine.proofs.KeptUp.{begun_by, devices_begun, planned_counts, planned_leaves}
+use Rattle.rq_engine.proofs.Tested.{close_unready}
 use Rattle.rq_engine.proofs.engine.Engine.start_close.Goals as goal
 
 pub returns-in_default-clause-answered : goal.returns-in_default-clause-answered
@@ -86,7 +87,7 @@ pub returns-in-Ok-start_planned-clause-begun : goal.returns-in-Ok-start_planned-
 returns-in-Ok-start_planned-clause-begun g c =
     let s = c.args.self.now.state in
     let b : HasStarted s c.args.txn c.in_ok-number.number (Sending c.args.sender) (Chain (Close c.args.sender)) c.start_planned.new.self.state = (c.in-Ok-start_planned.ensures.started (Chain (Close c.args.sender)) (chained c.in-Ok.op.level c.in-Ok.op.bytes _ c.in-Ok.ensures.told)).begun in
-    (refl, begun_by s c.args.txn c.in_ok-number.number (Sending c.args.sender) s.cells_in_use (Chain (Close c.args.sender)) b.plan _ c.in_ok-number.ensures.ready b.planned.asked b.state)
+    (refl, c.in_ok-check_close.ensures.tested c.in_ok-number.ensures.passes, begun_by s c.args.txn c.in_ok-number.number (Sending c.args.sender) s.cells_in_use (Chain (Close c.args.sender)) b.plan _ c.in_ok-number.ensures.ready b.planned.asked b.state)
 
 pub returns-in-Ok-start_planned-clause-devices : goal.returns-in-Ok-start_planned-clause-devices
 returns-in-Ok-start_planned-clause-devices g c =
@@ -97,7 +98,7 @@ returns-in-Ok-start_planned-clause-devices g c =
 pub returns-clause-refused : goal.returns-clause-refused
 returns-clause-refused g c =
     let p = c.in-Err.ensures.started (Chain (Close c.args.sender)) (chained c.in-Ok.op.level c.in-Ok.op.bytes _ c.in-Ok.ensures.told) in
-    planned_leaves c.args.self.now c.start_planned.new.self _ c.in-Err.refusal p.causes c.in-Err.ensures.refused
+    planned_leaves c.args.self.now c.start_planned.new.self (Start_close c.args.txn c.args.sender) refl (c.in_ok-check_close.ensures.tested c.in_ok-number.ensures.passes) _ c.in-Err.refusal p.causes c.in-Err.ensures.refused
 
 pub returns-in-Ok-start_planned-clause-faults : goal.returns-in-Ok-start_planned-clause-faults
 returns-in-Ok-start_planned-clause-faults g c = ap g.P.PageDevice.faults c.in-Ok-start_planned.ensures.devices.0
@@ -106,3 +107,16 @@ pub returns-clause-faults : goal.returns-clause-faults
 returns-clause-faults g c =
     let p = c.in-Err.ensures.started (Chain (Close c.args.sender)) (chained c.in-Ok.op.level c.in-Ok.op.bytes _ c.in-Ok.ensures.told) in
     planned_counts g.P.PageDevice _ c.in-Err.refusal p.causes c.args.self.now c.start_planned.new.self c.in-Err.ensures.refused
+
+pub returns-in_err-number-clause-refused : goal.returns-in_err-number-clause-refused
+returns-in_err-number-clause-refused g c =
+    let left = close_unready c.args.self.now c.args.txn _ c.in_err-number.ensures.refused c.args.sender in
+    search (rules, left)
+
+pub returns-in_err-check_close-clause-refused : goal.returns-in_err-check_close-clause-refused
+returns-in_err-check_close-clause-refused g c =
+    let left = c.in_err-check_close.ensures.leaves c.in_ok-number.ensures.passes in
+    search (rules, left)
+
+pub returns-in_default-clause-refused : goal.returns-in_default-clause-refused
+returns-in_default-clause-refused g c = (c.in_ok-check_close.ensures.tested c.in_ok-number.ensures.passes, refl)

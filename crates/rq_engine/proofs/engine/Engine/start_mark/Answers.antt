@@ -19,6 +19,7 @@ use Rattle.rq_engine.proofs.Latches.{mark_refused, mark_unlatched}
 use Rattle.rq_engine.proofs.Leveled.{mark_free, mark_held, mark_plan, refused_for}
 use Rattle.rq_engine.proofs.Refusals.{no_memory, not_full}
 use Rattle.rq_engine.proofs.KeptUp.{begun_by, devices_begun, planned_counts, planned_leaves}
+use Rattle.rq_engine.proofs.Tested.{mark_unready}
 use Rattle.rq_engine.proofs.engine.Engine.start_mark.Goals as goal
 
 pub returns-in_default-clause-answered : goal.returns-in_default-clause-answered
@@ -111,7 +112,7 @@ returns-in-Ok-start_planned-clause-begun g c =
     let mark : Tagging = record { client = c.args.client; tag = c.args.tag } in
     let told = tagged c.in-Ok.op.level c.in-Ok.op.bytes _ (ap (λ (j : Job). j.level) c.in-Ok.ensures.op) c.in-Ok.ensures.told in
     let b : HasStarted s c.args.txn c.in_ok-number.number (Marking c.args.client) (Tag mark) c.start_planned.new.self.state = (c.in-Ok-start_planned.ensures.started (Tag mark) told).begun in
-    (refl, begun_by s c.args.txn c.in_ok-number.number (Marking c.args.client) s.cells_in_use (Tag mark) b.plan _ c.in_ok-number.ensures.ready b.planned.asked b.state)
+    (refl, c.in_ok-check_mark.ensures.tested c.args.tag c.in_ok-number.ensures.passes, begun_by s c.args.txn c.in_ok-number.number (Marking c.args.client) s.cells_in_use (Tag mark) b.plan _ c.in_ok-number.ensures.ready b.planned.asked b.state)
 
 pub returns-in-Ok-start_planned-clause-devices : goal.returns-in-Ok-start_planned-clause-devices
 returns-in-Ok-start_planned-clause-devices g c =
@@ -126,7 +127,7 @@ returns-clause-refused g c =
     let mark : Tagging = record { client = c.args.client; tag = c.args.tag } in
     let told = tagged c.in-Ok.op.level c.in-Ok.op.bytes _ (ap (λ (j : Job). j.level) c.in-Ok.ensures.op) c.in-Ok.ensures.told in
     let p = c.in-Err.ensures.started (Tag mark) told in
-    planned_leaves c.args.self.now c.start_planned.new.self _ c.in-Err.refusal p.causes c.in-Err.ensures.refused
+    planned_leaves c.args.self.now c.start_planned.new.self (Start_mark c.args.txn c.args.client c.args.tag) refl (c.in_ok-check_mark.ensures.tested c.args.tag c.in_ok-number.ensures.passes) _ c.in-Err.refusal p.causes c.in-Err.ensures.refused
 
 pub returns-in-Ok-start_planned-clause-faults : goal.returns-in-Ok-start_planned-clause-faults
 returns-in-Ok-start_planned-clause-faults g c = ap g.P.PageDevice.faults c.in-Ok-start_planned.ensures.devices.0
@@ -137,3 +138,16 @@ returns-clause-faults g c =
     let told = tagged c.in-Ok.op.level c.in-Ok.op.bytes _ (ap (λ (j : Job). j.level) c.in-Ok.ensures.op) c.in-Ok.ensures.told in
     let p = c.in-Err.ensures.started (Tag mark) told in
     planned_counts g.P.PageDevice _ c.in-Err.refusal p.causes c.args.self.now c.start_planned.new.self c.in-Err.ensures.refused
+
+pub returns-in_err-number-clause-refused : goal.returns-in_err-number-clause-refused
+returns-in_err-number-clause-refused g c =
+    let left = mark_unready c.args.self.now c.args.txn _ c.in_err-number.ensures.refused c.args.client c.args.tag in
+    search (rules, left)
+
+pub returns-in_err-check_mark-clause-refused : goal.returns-in_err-check_mark-clause-refused
+returns-in_err-check_mark-clause-refused g c =
+    let left = c.in_err-check_mark.ensures.leaves c.args.tag c.in_ok-number.ensures.passes in
+    search (rules, left)
+
+pub returns-in_default-clause-refused : goal.returns-in_default-clause-refused
+returns-in_default-clause-refused g c = (c.in_ok-check_mark.ensures.tested c.args.tag c.in_ok-number.ensures.passes, refl)

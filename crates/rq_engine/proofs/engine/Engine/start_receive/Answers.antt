@@ -1,5 +1,5 @@
 use Rattle.std.specs.Bool.{⊤}
-use Rattle.std.proofs.Common.{sym, ◌∙◌, refl, ap, inl}
+use Rattle.std.proofs.Common.{rules, sym, ◌∙◌, refl, ap, inl}
 use Rattle.rq_model.specs.declared.refusal.Refusal.{Refusal}
 use Rattle.rq_model.specs.History.Call.{Start_receive}
 use Rattle.rq_groups.specs.declared.End.TheVariants.{Receiving}
@@ -18,6 +18,7 @@ use Rattle.rq_engine.proofs.Latches.{any_latches, any_unlatched}
 use Rattle.rq_engine.proofs.Leveled.{refused_for, take_plan}
 use Rattle.rq_engine.proofs.TakeCalls.{any_refused, log_is_full, none_done, take_done, take_memory, take_started}
 use Rattle.rq_engine.proofs.KeptUp.{begun_by, devices_begun, planned_counts, planned_leaves}
+use Rattle.rq_engine.proofs.Tested.{take_log_full, take_tested, take_unready}
 use Rattle.rq_engine.proofs.engine.Engine.start_receive.Goals as goal
 
 pub returns-in_default-clause-answered : goal.returns-in_default-clause-answered
@@ -84,7 +85,7 @@ pub returns-in-Ok-clause-begun : goal.returns-in-Ok-clause-begun
 returns-in-Ok-clause-begun g c =
     let s = c.args.self.now.state in
     let b = c.in-Ok.ensures.taken.begun in
-    (b.sender, (refl, b.waits, begun_by s c.args.txn c.in_ok-number.number (Receiving b.sender) s.cells_in_use (Chain (Receive b.sender)) b.started.plan _ c.in_ok-number.ensures.ready b.started.planned.asked b.started.state))
+    (b.sender, (refl, take_tested c.args.self.now c.args.txn c.in_ok-number.ensures.passes (sym c.if-is_log_full.ensures), b.waits, begun_by s c.args.txn c.in_ok-number.number (Receiving b.sender) s.cells_in_use (Chain (Receive b.sender)) b.started.plan _ c.in_ok-number.ensures.ready b.started.planned.asked b.started.state))
 
 pub returns-in_default-clause-none : goal.returns-in_default-clause-none
 returns-in_default-clause-none g c = (
@@ -100,10 +101,18 @@ pub returns-in-Ok-clause-devices : goal.returns-in-Ok-clause-devices
 returns-in-Ok-clause-devices g c = devices_begun g.P.PageDevice c.args.self.now _ _ _ _ c.in-Ok.ensures.devices c.in-Ok.ensures.taken.begun.started.state
 
 pub returns-in-Err-clause-refused : goal.returns-in-Err-clause-refused
-returns-in-Err-clause-refused g c = planned_leaves c.args.self.now c.start_any_take.new.self _ c.in-Err.refusal c.in-Err.ensures.taken.causes c.in-Err.ensures.refused
+returns-in-Err-clause-refused g c = planned_leaves c.args.self.now c.start_any_take.new.self (Start_receive c.args.txn) refl (take_tested c.args.self.now c.args.txn c.in_ok-number.ensures.passes (sym c.if-is_log_full.ensures)) _ c.in-Err.refusal c.in-Err.ensures.taken.causes c.in-Err.ensures.refused
 
 pub returns-in-Ok-clause-faults : goal.returns-in-Ok-clause-faults
 returns-in-Ok-clause-faults g c = ap g.P.PageDevice.faults c.in-Ok.ensures.devices.0
 
 pub returns-in-Err-clause-faults : goal.returns-in-Err-clause-faults
 returns-in-Err-clause-faults g c = planned_counts g.P.PageDevice _ c.in-Err.refusal c.in-Err.ensures.taken.causes c.args.self.now c.start_any_take.new.self c.in-Err.ensures.refused
+
+pub returns-in_err-number-clause-refused : goal.returns-in_err-number-clause-refused
+returns-in_err-number-clause-refused g c =
+    let left = take_unready c.args.self.now c.args.txn _ c.in_err-number.ensures.refused in
+    search (rules, left)
+
+pub returns-then-is_log_full-clause-refused : goal.returns-then-is_log_full-clause-refused
+returns-then-is_log_full-clause-refused g c = take_log_full c.args.self.now c.args.txn c.in_ok-number.ensures.passes (sym c.if-is_log_full.ensures)

@@ -1,4 +1,4 @@
-use Rattle.std.proofs.Common.{◌≡◌, ◌<◌, ◌≤◌, true, sym, ap, ◌∙◌, refl, arith, inr}
+use Rattle.std.proofs.Common.{rules, ◌≡◌, ◌<◌, ◌≤◌, true, false, sym, ap, ◌∙◌, refl, arith, inr}
 use Rattle.rq_model.specs.declared.refusal.Refusal.{Refusal}
 use Rattle.rq_model.specs.History.Call.{Start_receive_from}
 use Rattle.rq_groups.specs.declared.End.TheVariants.{Receiving}
@@ -19,6 +19,7 @@ use Rattle.rq_engine.proofs.Leveled.{refused_for, take_free, take_plan}
 use Rattle.rq_engine.proofs.Opened.{state_is}
 use Rattle.rq_engine.proofs.TakeCalls.{from_refused, log_is_full, none_from_done, receiver_busy, take_done, take_memory, take_started}
 use Rattle.rq_engine.proofs.KeptUp.{begun_by, devices_begun, planned_counts, planned_leaves}
+use Rattle.rq_engine.proofs.Tested.{from_busy, from_log_full, from_tested, from_unknown, from_unready}
 use Rattle.rq_engine.proofs.engine.Engine.start_receive_from.Goals as goal
 
 pub returns-then-not-may_receive-clause-answered : goal.returns-then-not-may_receive-clause-answered
@@ -149,7 +150,7 @@ returns-in-Ok-clause-begun g c =
     let some = c.if-count-eq0.false in
     let wait : 1 ≤ waits s.waiting c.args.sender = omega (arith, count, some) in
     let b = c.in-Ok.ensures.started.begun in
-    (refl, (below, free, wait), begun_by s c.args.txn c.in_ok-number.number (Receiving c.args.sender) s.cells_in_use (Chain (Receive c.args.sender)) b.plan _ c.in_ok-number.ensures.ready b.planned.asked b.state)
+    (refl, from_tested c.args.self.now c.args.txn c.in_ok-number.ensures.passes c.args.sender below free (sym c.if-is_log_full.ensures), (below, free, wait), begun_by s c.args.txn c.in_ok-number.number (Receiving c.args.sender) s.cells_in_use (Chain (Receive c.args.sender)) b.plan _ c.in_ok-number.ensures.ready b.planned.asked b.state)
 
 pub returns-then-count-eq0-clause-none : goal.returns-then-count-eq0-clause-none
 returns-then-count-eq0-clause-none g c =
@@ -169,10 +170,40 @@ pub returns-in-Ok-clause-devices : goal.returns-in-Ok-clause-devices
 returns-in-Ok-clause-devices g c = devices_begun g.P.PageDevice c.args.self.now _ _ _ _ c.in-Ok.ensures.devices c.in-Ok.ensures.started.begun.state
 
 pub returns-in-Err-clause-refused : goal.returns-in-Err-clause-refused
-returns-in-Err-clause-refused g c = planned_leaves c.args.self.now c.start_take.new.self _ c.in-Err.refusal c.in-Err.ensures.started.causes c.in-Err.ensures.refused
+returns-in-Err-clause-refused g c =
+    let n : c.senders.result ≡ sender_count c.args.self.now.state.sizes = c.senders.ensures.number ∙ ap sender_count (c.layout.ensures.sizes ∙ ap (λ (s : State). s.sizes) (state_is c.self.view_is)) in
+    let lt = c.if-sender-senders.false in
+    let below : c.args.sender < sender_count c.args.self.now.state.sizes = omega (arith, n, lt) in
+    let free : is_free_for c.args.txn c.args.sender c.args.self.now.state.ends.receiving ≡ true = ap (λ (s : State). is_free_for c.args.txn c.args.sender s.ends.receiving) (sym (state_is c.self.view_is)) ∙ sym c.if-not-may_receive.ensures in
+    planned_leaves c.args.self.now c.start_take.new.self (Start_receive_from c.args.txn c.args.sender) refl (from_tested c.args.self.now c.args.txn c.in_ok-number.ensures.passes c.args.sender below free (sym c.if-is_log_full.ensures)) _ c.in-Err.refusal c.in-Err.ensures.started.causes c.in-Err.ensures.refused
 
 pub returns-in-Ok-clause-faults : goal.returns-in-Ok-clause-faults
 returns-in-Ok-clause-faults g c = ap g.P.PageDevice.faults c.in-Ok.ensures.devices.0
 
 pub returns-in-Err-clause-faults : goal.returns-in-Err-clause-faults
 returns-in-Err-clause-faults g c = planned_counts g.P.PageDevice _ c.in-Err.refusal c.in-Err.ensures.started.causes c.args.self.now c.start_take.new.self c.in-Err.ensures.refused
+
+pub returns-in_err-number-clause-refused : goal.returns-in_err-number-clause-refused
+returns-in_err-number-clause-refused g c =
+    let left = from_unready c.args.self.now c.args.txn _ c.in_err-number.ensures.refused c.args.sender in
+    search (rules, left)
+
+pub returns-then-sender-senders-clause-refused : goal.returns-then-sender-senders-clause-refused
+returns-then-sender-senders-clause-refused g c =
+    let n : c.senders.result ≡ sender_count c.args.self.now.state.sizes = c.senders.ensures.number ∙ ap sender_count (c.layout.ensures.sizes ∙ ap (λ (s : State). s.sizes) (state_is c.self.view_is)) in
+    from_unknown c.args.self.now c.args.txn c.in_ok-number.ensures.passes c.args.sender (let ge = c.if-sender-senders.true in omega (arith, n, ge))
+
+pub returns-then-not-may_receive-clause-refused : goal.returns-then-not-may_receive-clause-refused
+returns-then-not-may_receive-clause-refused g c =
+    let n : c.senders.result ≡ sender_count c.args.self.now.state.sizes = c.senders.ensures.number ∙ ap sender_count (c.layout.ensures.sizes ∙ ap (λ (s : State). s.sizes) (state_is c.self.view_is)) in
+    let lt = c.if-sender-senders.false in
+    let below : c.args.sender < sender_count c.args.self.now.state.sizes = omega (arith, n, lt) in
+    from_busy c.args.self.now c.args.txn c.in_ok-number.ensures.passes c.args.sender below (ap (λ (s : State). is_free_for c.args.txn c.args.sender s.ends.receiving) (sym (state_is c.self.view_is)) ∙ sym c.if-not-may_receive.ensures)
+
+pub returns-then-is_log_full-clause-refused : goal.returns-then-is_log_full-clause-refused
+returns-then-is_log_full-clause-refused g c =
+    let n : c.senders.result ≡ sender_count c.args.self.now.state.sizes = c.senders.ensures.number ∙ ap sender_count (c.layout.ensures.sizes ∙ ap (λ (s : State). s.sizes) (state_is c.self.view_is)) in
+    let lt = c.if-sender-senders.false in
+    let below : c.args.sender < sender_count c.args.self.now.state.sizes = omega (arith, n, lt) in
+    let free : is_free_for c.args.txn c.args.sender c.args.self.now.state.ends.receiving ≡ true = ap (λ (s : State). is_free_for c.args.txn c.args.sender s.ends.receiving) (sym (state_is c.self.view_is)) ∙ sym c.if-not-may_receive.ensures in
+    from_log_full c.args.self.now c.args.txn c.in_ok-number.ensures.passes c.args.sender below free (sym c.if-is_log_full.ensures)

@@ -1,4 +1,4 @@
-use Rattle.std.proofs.Common.{◌≡◌, arith, ◌+◌, ap, ◌∙◌, refl}
+use Rattle.std.proofs.Common.{rules, ◌≡◌, arith, ◌+◌, ap, ◌∙◌, refl}
 use Rattle.rq_model.specs.declared.refusal.Refusal.{Refusal}
 use Rattle.rq_model.specs.History.Call.{Start_send}
 use Rattle.rq_model.specs.Vocabulary.{message_of}
@@ -22,6 +22,7 @@ use Rattle.rq_engine.proofs.Refusals.{no_memory, not_full}
 use Rattle.rq_engine.proofs.SendCalls.{going_started, send_done, send_refused}
 use Rattle.rq_engine.specs.Opened.{OpenStore}
 use Rattle.rq_engine.proofs.KeptUp.{begun_by, devices_begun, planned_counts, planned_leaves}
+use Rattle.rq_engine.proofs.Tested.{send_unready}
 use Rattle.rq_engine.proofs.engine.Engine.start_send.Goals as goal
 
 pub returns-in_default-clause-answered : goal.returns-in_default-clause-answered
@@ -109,6 +110,7 @@ returns-in-Ok-start_planned-clause-begun g c =
     let s = c.args.self.now.state in
     let b : HasStarted s c.args.txn c.in_ok-number.number (Sending c.args.sender) (Chain (Send c.args.sender c.args.tag c.args.body.now)) c.start_planned.new.self.state = (c.in-Ok-start_planned.ensures.started (Chain (Send c.args.sender c.args.tag c.args.body.now)) (chained c.in-Ok.op.level c.in-Ok.op.bytes _ (c.in-Ok.ensures.told c.in_ok-check_send.ensures.short))).begun in (
       refl,
+      c.in_ok-check_send.ensures.tested c.in_ok-number.ensures.passes,
       begun_by s c.args.txn c.in_ok-number.number (Sending c.args.sender) (s.cells_in_use + 1) (Chain (Send c.args.sender c.args.tag c.args.body.now)) b.plan _ c.in_ok-number.ensures.ready b.planned.asked
           (ap (λ (x : State). record x { cells_in_use = x.cells_in_use + 1 }) (state_is c.self-2.view_is ∙ b.state)),
     )
@@ -125,7 +127,7 @@ returns-in-Ok-start_planned-clause-devices g c =
 pub returns-clause-refused : goal.returns-clause-refused
 returns-clause-refused g c =
     let p = c.in-Err.ensures.started (Chain (Send c.args.sender c.args.tag c.args.body.now)) (chained c.in-Ok.op.level c.in-Ok.op.bytes _ (c.in-Ok.ensures.told c.in_ok-check_send.ensures.short)) in
-    planned_leaves c.args.self.now c.start_planned.new.self _ c.in-Err.refusal p.causes c.in-Err.ensures.refused
+    planned_leaves c.args.self.now c.start_planned.new.self (Start_send c.args.txn (message_of c.args.sender c.args.tag c.args.body.now)) refl (c.in_ok-check_send.ensures.tested c.in_ok-number.ensures.passes) _ c.in-Err.refusal p.causes c.in-Err.ensures.refused
 
 pub returns-in-Ok-start_planned-clause-faults : goal.returns-in-Ok-start_planned-clause-faults
 returns-in-Ok-start_planned-clause-faults g c = ap (λ (o : OpenStore _ _). g.P.PageDevice.faults o.pages) c.self-2.view_is ∙ ap g.P.PageDevice.faults c.in-Ok-start_planned.ensures.devices.0
@@ -134,3 +136,16 @@ pub returns-clause-faults : goal.returns-clause-faults
 returns-clause-faults g c =
     let p = c.in-Err.ensures.started (Chain (Send c.args.sender c.args.tag c.args.body.now)) (chained c.in-Ok.op.level c.in-Ok.op.bytes _ (c.in-Ok.ensures.told c.in_ok-check_send.ensures.short)) in
     planned_counts g.P.PageDevice _ c.in-Err.refusal p.causes c.args.self.now c.start_planned.new.self c.in-Err.ensures.refused
+
+pub returns-in_err-number-clause-refused : goal.returns-in_err-number-clause-refused
+returns-in_err-number-clause-refused g c =
+    let left = send_unready c.args.self.now c.args.txn _ c.in_err-number.ensures.refused c.args.sender c.args.tag c.args.body.now in
+    search (rules, left)
+
+pub returns-in_err-check_send-clause-refused : goal.returns-in_err-check_send-clause-refused
+returns-in_err-check_send-clause-refused g c =
+    let left = c.in_err-check_send.ensures.leaves c.in_ok-number.ensures.passes in
+    search (rules, left)
+
+pub returns-in_default-clause-refused : goal.returns-in_default-clause-refused
+returns-in_default-clause-refused g c = (c.in_ok-check_send.ensures.tested c.in_ok-number.ensures.passes, refl)

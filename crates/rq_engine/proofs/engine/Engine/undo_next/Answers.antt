@@ -1,4 +1,4 @@
-use Rattle.std.proofs.Common.{◌≡◌, Option, Some, false, refl, sym, ap, ◌∙◌, subst}
+use Rattle.std.proofs.Common.{rules, ◌≡◌, Option, Some, false, refl, sym, ap, ◌∙◌, subst}
 use Rattle.rq_model.specs.declared.refusal.Refusal.{Refusal}
 use Rattle.rq_model.specs.History.Call.{Undo_next}
 use Rattle.rq_model.specs.Tests.{log_full, undo_cost}
@@ -13,12 +13,13 @@ use Rattle.rq_engine.specs.Applied.{OnLatched}
 use Rattle.rq_engine.specs.Earlier.{on}
 use Rattle.rq_engine.specs.KeptUp.{with_images_of}
 use Rattle.rq_engine.specs.Invariant.{IsDoneConsistent, IsLogged, end_of}
-use Rattle.rq_engine.proofs.AbortCalls.{is_newest, is_newest_of, may_be_undone, none_done, turned_newest, undo_done, undo_full, undo_memory, undo_refused}
+use Rattle.rq_engine.proofs.AbortCalls.{cost_found, is_newest, is_newest_of, may_be_undone, none_done, turned_newest, undo_done, undo_full, undo_memory, undo_refused}
 use Rattle.rq_engine.proofs.Earlier.{full_on}
 use Rattle.rq_engine.proofs.Latches.{undo_latched, undo_unlatched}
 use Rattle.rq_engine.proofs.Leveled.{refused_for}
 use Rattle.rq_engine.proofs.Opened.{state_is}
 use Rattle.rq_engine.proofs.KeptUp.{devices_begun, planned_counts, planned_leaves}
+use Rattle.rq_engine.proofs.Tested.{undo_log_full, undo_tested, undo_unready}
 use Rattle.rq_engine.proofs.engine.Engine.undo_next.Goals as goal
 
 pub returns-in_default-clause-answered : goal.returns-in_default-clause-answered
@@ -106,13 +107,16 @@ pub returns-in-Ok-clause-begun : goal.returns-in-Ok-clause-begun
 returns-in-Ok-clause-begun g c =
     let s = c.args.self.now.state in
     let f = c.in-Some.done in
+    let back : IsTurnedBack s c.args.txn c.in_ok-number.number (Some f) = subst (λ (o : Option Finished). IsTurnedBack s c.args.txn c.in_ok-number.number o) (is_newest_of c.args.self.now.state _ c.args.txn _ _ (state_is c.self.view_is) c.next_undo.ensures c.in-Some.is) c.in_ok-number.ensures.ready in
+    let tests = undo_tested c.args.self.now c.args.txn c.in_ok-number.ensures.passes (ap (λ n. log_full (ledger_of s) n) (cost_found s c.args.txn c.in_ok-number.number f c.in_ok-number.ensures.passes back ∙ sym c.undo_records.ensures) ∙ sym c.if-is_log_full.ensures) in
     let b = c.in-Ok.ensures.started.begun in (
       refl,
+      tests,
       record {
         under = record { number = c.in_ok-number.number; writes = b.writes; made = 0; aim = Undoing f.lsn f.deed };
         done = f;
         number = refl;
-        ready = subst (λ (o : Option Finished). IsTurnedBack s c.args.txn c.in_ok-number.number o) (is_newest_of c.args.self.now.state _ c.args.txn _ _ (state_is c.self.view_is) c.next_undo.ensures c.in-Some.is) c.in_ok-number.ensures.ready;
+        ready = back;
         plan = (refl, refl);
         lists = ap (with_images_of s) b.state;
       },
@@ -127,10 +131,27 @@ pub returns-in-Ok-clause-devices : goal.returns-in-Ok-clause-devices
 returns-in-Ok-clause-devices g c = devices_begun g.P.PageDevice c.args.self.now _ _ _ _ c.in-Ok.ensures.devices c.in-Ok.ensures.started.begun.state
 
 pub returns-in-Err-clause-refused : goal.returns-in-Err-clause-refused
-returns-in-Err-clause-refused g c = planned_leaves c.args.self.now c.start_inverse.new.self _ c.in-Err.refusal c.in-Err.ensures.started.causes c.in-Err.ensures.refused
+returns-in-Err-clause-refused g c =
+    let s = c.args.self.now.state in
+    let f = c.in-Some.done in
+    let back : IsTurnedBack s c.args.txn c.in_ok-number.number (Some f) = subst (λ (o : Option Finished). IsTurnedBack s c.args.txn c.in_ok-number.number o) (is_newest_of c.args.self.now.state _ c.args.txn _ _ (state_is c.self.view_is) c.next_undo.ensures c.in-Some.is) c.in_ok-number.ensures.ready in
+    let tests = undo_tested c.args.self.now c.args.txn c.in_ok-number.ensures.passes (ap (λ n. log_full (ledger_of s) n) (cost_found s c.args.txn c.in_ok-number.number f c.in_ok-number.ensures.passes back ∙ sym c.undo_records.ensures) ∙ sym c.if-is_log_full.ensures) in
+    planned_leaves c.args.self.now c.start_inverse.new.self (Undo_next c.args.txn) refl tests _ c.in-Err.refusal c.in-Err.ensures.started.causes c.in-Err.ensures.refused
 
 pub returns-in-Ok-clause-faults : goal.returns-in-Ok-clause-faults
 returns-in-Ok-clause-faults g c = ap g.P.PageDevice.faults c.in-Ok.ensures.devices.0
 
 pub returns-in-Err-clause-faults : goal.returns-in-Err-clause-faults
 returns-in-Err-clause-faults g c = planned_counts g.P.PageDevice _ c.in-Err.refusal c.in-Err.ensures.started.causes c.args.self.now c.start_inverse.new.self c.in-Err.ensures.refused
+
+pub returns-in_err-number-clause-refused : goal.returns-in_err-number-clause-refused
+returns-in_err-number-clause-refused g c =
+    let left = undo_unready c.args.self.now c.args.txn _ c.in_err-number.ensures.refused in
+    search (rules, left)
+
+pub returns-then-is_log_full-clause-refused : goal.returns-then-is_log_full-clause-refused
+returns-then-is_log_full-clause-refused g c =
+    let s = c.args.self.now.state in
+    let f = c.in-Some.done in
+    let back : IsTurnedBack s c.args.txn c.in_ok-number.number (Some f) = subst (λ (o : Option Finished). IsTurnedBack s c.args.txn c.in_ok-number.number o) (is_newest_of c.args.self.now.state _ c.args.txn _ _ (state_is c.self.view_is) c.next_undo.ensures c.in-Some.is) c.in_ok-number.ensures.ready in
+    undo_log_full c.args.self.now c.args.txn c.in_ok-number.ensures.passes (ap (λ n. log_full (ledger_of s) n) (cost_found s c.args.txn c.in_ok-number.number f c.in_ok-number.ensures.passes back ∙ sym c.undo_records.ensures) ∙ sym c.if-is_log_full.ensures)
