@@ -1,20 +1,23 @@
 -- Open stores that are kept up.
-use Rattle.std.proofs.Common.{◌≡◌, ℕ, Bool, true, false, List, arith, inl, refl, sym, ap, subst, ◌∙◌}
+use Rattle.std.proofs.Common.{◌≡◌, ℕ, Bool, true, false, List, arith, inl, refl, sym, ap, subst, ◌∙◌, ⊎_elim}
 use Rattle.rq_disk.specs.declared.device.LogDevice as log_device
 use Rattle.rq_disk.specs.declared.device.PageDevice as page_device
 use Rattle.rq_model.specs.declared.refusal.Refusal.{Refusal}
 use Rattle.rq_model.specs.declared.refusal.Refusal.TheVariants as why
+use Rattle.rq_model.specs.declared.refusal.Damage.TheVariants.{Page}
 use Rattle.rq_model.specs.declared.txn.Txn.{Txn}
 use Rattle.rq_model.specs.History.{Call}
 use Rattle.rq_model.specs.Tests.{NoneHolds}
-use Rattle.rq_content.specs.Read.{IsBroken, StopsFor}
+use Rattle.rq_content.specs.Read.{IsNoDamage, StopsFor}
 use Rattle.rq_groups.specs.declared.End.{End}
 use Rattle.rq_groups.specs.Sides.{with_end}
 use Rattle.rq_page.specs.Sizes.{Sizes}
 use Rattle.rq_planner.specs.Answered.{IsDeedFor, RefusesPlan}
 use Rattle.rq_planner.specs.Asked.{Task}
+use Rattle.rq_pool.proofs.Fetched.{read_none}
 use Rattle.rq_pool.proofs.KeptUp.{kept_still}
-use Rattle.rq_pool.specs.Reading.{OnlyRead}
+use Rattle.rq_pool.specs.Fetching.{AreAllFramed, MayHaveRead}
+use Rattle.rq_pool.specs.Pooled.{Pooled}
 use Rattle.rq_store.specs.State.{State}
 use Rattle.rq_txn.specs.Rows.{Row, change_row, row_started}
 use Rattle.rq_engine.specs.Answers.{HasNothingUnderWay}
@@ -27,15 +30,6 @@ use Rattle.rq_engine.specs.Tested.{tested}
 -- lists but for images, over images that stayed
 pub but_same : (lists new : State) → AreButRead lists new → new.images ≡ lists.images → new ≡ lists
 but_same lists new but same = but ∙ ap (λ (i : List (List _)). record lists { images = i }) same
-
--- a device that was not called was only read
-read_none : {P : Type 0} (g : page_device.Ghosts P) (d : P) → OnlyRead g d d
-read_none g d = record {
-  same = refl;
-  honest = λ h. h;
-  crash = λ p c may. may;
-  time = record { later = omega arith; nothing_else = λ t c before since. inl since; keeps = λ t c before past. past };
-}
 
 module _ {P L : Type 0} (g : page_device.Ghosts P) where
   -- no device was called
@@ -88,11 +82,30 @@ module _ {P L : Type 0} (old new : OpenStore P L) where
   pub planned_leaves : (c : Call) → starts_one c ≡ true → NoneHolds (tested old.state c) → (IsHeld : Type 0) (r : Refusal) → RefusesPlan IsHeld r → new ≡ old → RefusedButRead c old r new
   planned_leaves c starts passed IsHeld r causes is = subst (λ (b : Bool). RefusedBehind b (tested old.state c) old r new) (sym starts) (plan_leaves (tested old.state c) passed IsHeld r causes is)
 
--- and of a content
-module _ {P L : Type 0} (g : page_device.Ghosts P) (old : OpenStore P L) (tests : List (Bool × Refusal)) (passed : NoneHolds tests) (z : Sizes) (images : List (List ℕ)) (rows : List Row) where
-  shown_leaves : (r : Refusal) → IsBroken z images rows r → RefusedBehind false tests old r old × RefusalCounts g r old old
-  shown_leaves r broken = rw (broken.page) ((passed, refl), refl)
+-- what stopped a content leaves, behind its tests
+module _ {P L : Type 0} (g : page_device.Ghosts P) (rows : List Row) where
+  left_of : (tests : List (Bool × Refusal)) → NoneHolds tests → (old new : OpenStore P L) (r : Refusal) → AreButRead old.state new.state → StopsFor g rows (pooled old) r (pooled new) → RefusedBehind false tests old r new
+  left_of tests passed old new why.NoMemory but stops = (passed, but)
+  left_of tests passed old new why.DiskRead but stops = (passed, but)
+  left_of tests passed old new (why.Damaged d) but stops = (passed, but)
+  left_of tests passed old new _ but stops = absurd stops
 
-  pub content_leaves : (r : Refusal) → StopsFor z images rows r → RefusedBehind false tests old r old × RefusalCounts g r old old
-  content_leaves why.NoMemory stops = ((passed, refl), refl)
-  content_leaves r stops = shown_leaves r stops
+  pub content_leaves : (tests : List (Bool × Refusal)) → NoneHolds tests → (inside old new : OpenStore P L) → inside ≡ old → (r : Refusal) → new.state ≡ record inside.state { sizes = new.state.sizes; images = new.state.images } → MayHaveRead g (pooled inside) (pooled new)
+      → StopsFor g rows (pooled inside) r (pooled new) → RefusedBehind false tests old r new
+  content_leaves tests passed inside old new is r rest read stops =
+      subst (λ (o : OpenStore P L). RefusedBehind false tests o r new) is (left_of tests passed inside new r (rest ∙ ap (λ (z : Sizes). record inside.state { sizes = z; images = new.state.images }) (read.kept 0).sizes) stops)
+
+  -- and how often the device has failed then
+  counted_of : (old new : OpenStore P L) (r : Refusal) → StopsFor g rows (pooled old) r (pooled new) → RefusalCounts g r old new
+  counted_of old new why.NoMemory stops = stops
+  counted_of old new why.DiskRead stops = stops
+  counted_of old new (why.Damaged (Page n)) stops = stops.2
+  counted_of old new _ stops = absurd stops
+
+  pub content_counts : (inside old new : OpenStore P L) → inside ≡ old → (r : Refusal) → StopsFor g rows (pooled inside) r (pooled new) → RefusalCounts g r old new
+  content_counts inside old new is r stops = subst (λ (o : OpenStore P L). RefusalCounts g r o new) is (counted_of inside new r stops)
+
+-- No read fails where each page stands in a frame.
+pub none_outside : {P : Type 0} (g : page_device.Ghosts P) (rows : List Row) (old new : Pooled P) (r : Refusal) → AreAllFramed old → StopsFor g rows old r new → IsNoDamage r → r ≡ why.NoMemory
+none_outside g rows old new r all stops none = ⊎_elim (λ memory. memory) (λ (failed : r ≡ why.DiskRead).
+    let outside = (subst (λ (e : Refusal). StopsFor g rows old e new) failed stops).0 in absurd (outside.outside (all outside.page outside.behind outside.within))) none

@@ -5,10 +5,10 @@ use Rattle.rq_model.specs.History.Call.{Start_send, Start_receive, Start_receive
 use Rattle.rq_model.specs.declared.refusal.Refusal.{Refusal}
 use Rattle.rq_model.specs.declared.refusal.Refusal.TheVariants as why
 use Rattle.rq_model.specs.Tests.{NoneHolds, first_of}
-use Rattle.rq_disk.specs.Device.{PageAsk}
 use Rattle.rq_disk.specs.Device.PageAsk.{Reads, Writes}
 use Rattle.rq_disk.specs.declared.device.PageDevice as page_device
 use Rattle.rq_pool.specs.KeptUp.{IsForced, IsKeptUp}
+use Rattle.rq_pool.specs.Fetching.{HasFailed, HasOutside}
 use Rattle.rq_pool.specs.Reading.{OnlyRead}
 use Rattle.rq_store.specs.State.{State}
 use Rattle.rq_engine.specs.Opened.{OpenStore, pooled}
@@ -60,18 +60,11 @@ RefusedBehind starts tests old r new = (first_of tests ≡ Some r) × (new ≡ o
 abbrev pub RefusedButRead : {P L : Type 0} → Call → OpenStore P L → Refusal → OpenStore P L → Type 0
 RefusedButRead c old r new = RefusedBehind (starts_one c) (tested old.state c) old r new
 
--- The device failed once: in a call that was asked this.
-pub record HasFailed {P : Type 0} (g : page_device.Ghosts P) (ask : PageAsk) (old new : P) : Type 0 where
-  pub once : g.faults new ≡ (g.faults old + 1) % 2 ^ 64
-  -- the device as that call found it
-  pub before : P
-  pub none : g.faults before ≡ g.faults old
-  pub excused : g.excuse ask before new
-
--- How often the pages' device has failed where a call was refused: as often as before, but where it is told that a page was not
--- read, or not written out. Such a page still counts as changed, and its last record is forced.
+-- How often the pages' device has failed where a call was refused: once more where it is told that a page was not read, or not
+-- written out, else as often as before. A page that was not read stood in no frame. One that was not written out still counts as
+-- changed, and its last record is forced.
 abbrev pub RefusalCounts : {P L : Type 0} → page_device.Ghosts P → Refusal → OpenStore P L → OpenStore P L → Type 0
-RefusalCounts g why.DiskRead old new = (page : ℕ) × HasFailed g (Reads page) old.pages new.pages
+RefusalCounts g why.DiskRead old new = (out : HasOutside (pooled old)) × HasFailed g (Reads out.page) old.pages new.pages
 RefusalCounts g why.DiskWrite old new = (page : ℕ) × (image : List ℕ) × IsForced g old.state.forced (pooled new) page image
     × HasFailed g (Writes page image) old.pages new.pages
 RefusalCounts g _ old new = g.faults new.pages ≡ g.faults old.pages
