@@ -18,9 +18,9 @@ pub use checking::follows;
 pub use choices::next_end;
 pub use dues::{KeptUndo, PendingUndo, PendingUndos};
 pub use ended::EndedTransactions;
-pub use growing::{make_room, tells_deed, tells_write};
+pub use growing::{make_room, operation_of, tells_deed, tells_write};
 pub use numbers::LastOperations;
-pub use open_work::{NextUndo, OpenWork, UndoableWrite};
+pub use open_work::{NextUndo, OpenWork, UndoableWrite, sub};
 
 /// What undoing makes of a log and of a store, and what records may follow: each field is a theorem.
 pub fn laws()

@@ -6,7 +6,7 @@ ghost use Rattle.rq_analysis.specs.OpenWorkView.{open_work_after};
 ghost use Rattle.rq_analysis.specs.Numbers.{number_of, numbers, numbers_after, numbers_but, numbers_left, with_number};
 ghost use Rattle.rq_analysis.specs.Rules.{op_of};
 
-use crate::{EndedTransactions, OpenWork, make_room};
+use crate::{EndedTransactions, OpenWork, make_room, operation_of};
 use rq_model::record::Record;
 use rq_model::refusal::Refusal;
 use rq_model::txn::{Lsn, Sub, Txn};
@@ -101,16 +101,9 @@ fn note_both(
 fn raises(numbers: &[Sub], record: &Record) -> bool
     ensures { result ≡ is_greater (op_of «record».now) numbers.now }
 {
-    match record {
-        Record::PageOp { txn, operation, .. }
-        | Record::PageUndo { txn, operation, .. }
-        | Record::OpEnd { txn, operation, .. }
-        | Record::OpVoid { txn, operation }
-        | Record::CompEnd { txn, operation, .. } => greatest_of(numbers, *txn) < *operation,
-        Record::Commit { .. }
-        | Record::AbortEnd { .. }
-        | Record::Base { .. }
-        | Record::Restart { .. } => false,
+    match operation_of(record) {
+        Some(own) => greatest_of(numbers, own.txn) < own.number,
+        None => false,
     }
 }
 

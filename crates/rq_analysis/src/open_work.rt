@@ -331,8 +331,8 @@ fn begin_operation(unfinished: &mut Vec<Sub>, begun: Sub) -> Result<(), Refusal>
     }
 }
 
-// A transaction's operation, by its number.
-pub(crate) fn sub(txn: &Txn, operation: u64) -> Sub
+/// A transaction's operation, by its number.
+pub fn sub(txn: &Txn, operation: u64) -> Sub
     ensures { result ≡ record { txn = txn.now; number = operation } }
 {
     Sub {

@@ -167,7 +167,7 @@ back_slots k _ given latched p after h = absurd h
 
 -- ---- what a plan chooses
 
-free_first : is_free_slot free_bytes ≡ true
+pub free_first : is_free_slot free_bytes ≡ true
 unfolding free_bytes
 free_first = refl
 

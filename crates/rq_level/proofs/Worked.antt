@@ -1,35 +1,66 @@
 -- Worked: what the laws of levels refuse.
-use Rattle.std.proofs.Common.{◌≡◌, ◌∙◌, ◌+◌, ◌*◌, None, Option, Some, [], ◌∷◌, arith, ap, false, inr, refl, subst, sym}
-use Rattle.std.proofs.lemmas.Bool.{le-ltb, true≢false}
-use Rattle.std.proofs.lemmas.List.Elements.{All-nil, recursion_from_All}
-use Rattle.rq_model.specs.declared.record.Record.TheVariants.{PageOp}
-use Rattle.rq_model.specs.Deeds.{deed_by}
+use Rattle.std.proofs.Common.{◌≡◌, ◌∙◌, ◌+◌, ◌*◌, ℕ, List, None, Some, [], ◌∷◌, arith, ap, inl, inr, refl, subst, sym, map}
+use Rattle.std.proofs.lemmas.Bool.{false≢true, le-ltb, true≢false}
+use Rattle.std.proofs.lemmas.List.Elements.{recursion_from_All}
+use Rattle.rq_model.specs.declared.record.Deed.TheVariants.{Close, UnlinkHead}
+use Rattle.rq_model.specs.Deeds.{spelled_deed}
+use Rattle.rq_model.specs.Vocabulary.{In}
+use Rattle.rq_page.specs.declared.cell.Cell.{Cell}
 use Rattle.rq_page.specs.Pages.{lsn_of}
-use Rattle.rq_page.specs.Sizes.{Sizes}
-use Rattle.rq_level.specs.Asked.{AreOver, IsOver, TakesCell}
-use Rattle.rq_level.specs.LevelState.{nothing_kept}
-use Rattle.rq_level.specs.Ops.{Job}
+use Rattle.rq_views.specs.Chain.{Cells, Linked, Node, first, message}
+use Rattle.rq_views.specs.Items.{layout_of}
+use Rattle.rq_views.specs.Log.{applied, cell_in}
+use Rattle.rq_views.specs.Plans.{with_turn}
+use Rattle.rq_views.specs.Plans.Turn.{Did}
+use Rattle.rq_views.proofs.ChainLaws.{shows_here}
+use Rattle.rq_level.specs.Asked.{AreBackOver, IsOver}
+use Rattle.rq_level.specs.Given.{given_at}
+use Rattle.rq_level.specs.LevelState.{is_free_slot}
 use Rattle.rq_level.specs.PagePlans.{IsOneWrite}
+use Rattle.rq_level.specs.TakenBack.{newest_first}
 use Rattle.rq_level.specs.Worked.{WrongLevels}
+use Rattle.rq_level.specs.declared.slots.Given.{Given}
 use Rattle.rq_level.specs.declared.writes.SlotWrite.{SlotWrite}
+use Rattle.rq_level.proofs.Based.{each_in}
+use Rattle.rq_level.proofs.ChainLaws.{free_first}
 
--- a level that was told no store takes no cell
-no_cell : (w : SlotWrite) → TakesCell nothing_kept [] w → ⊥
-no_cell w h = (let no : ◌≡◌ {A = Option Sizes} None (Some h.sizes) = h.told in cc)
+-- the first message of a chain stands where the chain begins
+stands_first : (m : Cells) (s q : ℕ) (ns : List Node) (tag : ℕ) (body : List ℕ) (others : List (ℕ × List ℕ)) (c : Cell) → Linked m s 0 q ns 0 → (tag, body) ∷ others ≡ map message ns → m (first ns 0) ≡ Some c → ◌≡◌ {A = ℕ × List ℕ} (c.tag, c.body) (tag, body)
+stands_first m s q [] tag body others c linked e at = absurd (let no : ◌≡◌ {A = List (ℕ × List ℕ)} ((tag, body) ∷ others) [] = e in cc)
+stands_first m s q (n ∷ ns) tag body others c linked e at =
+    let same : message n ≡ (tag, body) = cc in
+    let cell : Some c ≡ Some _ = sym at ∙ linked.1 in
+    let tags : c.tag ≡ n.tag = cc in
+    let bodies : c.body ≡ n.body = cc in
+    cc
 
 pub wrong_levels : WrongLevels
 wrong_levels = record {
-  deed_of_another = λ p sender is lawful.
-      let told = lawful.told nothing_kept any [] [] p nothing_kept (inr (refl, refl)) in
-      let no : None ≡ Some told.deed = sym (ap (deed_by 2) is) ∙ told.reads in
+  deed_of_another = λ c q left sender right lawful.
+      let told = lawful.told c.kept c.asked c.given c.latched (record q { deed = spelled_deed (Close sender) }) left (inr (refl, refl, refl, refl, refl, refl)) in
+      let no : None ≡ Some told.deed = told.reads in
       absurd (cc);
-  not_given = λ p w is lawful.
-      let over = lawful.before nothing_kept any [] [] p nothing_kept (inr (refl, refl)) tt (All-nil _) in
-      no_cell w (recursion_from_All (λ (v : SlotWrite). IsOver nothing_kept [] v None) (w ∷ []) (subst (AreOver nothing_kept [] []) is over)).0;
-  not_compared = λ t n page slot before after p w is other lawful.
-      let over = lawful.before_undo nothing_kept (PageOp t n page slot before after) [] [] p nothing_kept (inr (refl, refl, refl)) tt (All-nil _) in
-      other (subst (IsOneWrite (page * 16 + slot) after before) is over).1;
+  not_given = λ c q p left w right but writes none no_cell lawful.
+      let over = lawful.before c.kept c.asked c.given c.latched p left (inr (refl, refl, refl, refl, refl, refl)) right.asked.of right.asked.noted in
+      let each = recursion_from_All (λ (v : SlotWrite). IsOver c.kept c.latched v (given_at v.at c.given)) p.writes.items over in
+      no_cell (subst (IsOver c.kept c.latched w) none (each_in (λ (v : SlotWrite). IsOver c.kept c.latched v (given_at v.at c.given)) p.writes.items each w (subst (In w) (sym writes) (inl refl))));
+  flags_of_the_opening = λ c q left w slots right there before used knows as_given lawful.
+      let over = lawful.holds slots c.kept c.asked c.given c.latched q left right.plans knows right.asked.of as_given in
+      let each = each_in (λ (v : SlotWrite). v.before ≡ slots v.at) q.writes.items (recursion_from_All (λ (v : SlotWrite). v.before ≡ slots v.at) q.writes.items over) w there in
+      false≢true (sym used ∙ (ap is_free_slot (sym each ∙ before) ∙ free_first));
+  nothing_is_undone = λ c q p left g rest right but given none lawful.
+      let written = lawful.asked_is_written_undo c.kept c.asked c.given c.latched p left (inr (refl, refl, refl, refl, refl, refl)) right.asked.gathered in
+      let each = recursion_from_All (λ (h : Given). In h.at (map (λ (w : SlotWrite). w.at) p.writes.items)) c.given written in
+      subst (λ (ws : List SlotWrite). In g.at (map (λ (w : SlotWrite). w.at) ws)) none (each_in (λ (h : Given). In h.at (map (λ (w : SlotWrite). w.at) p.writes.items)) c.given each g (subst (In g) (sym given) (inl refl)));
+  put_back_at_the_tail = λ z c q left b p after h lawful.
+      let d = UnlinkHead h.sender h.sequence h.tag h.body in
+      let leaves = lawful.inverse z d h.view h.held c.kept c.asked c.given c.latched q left h.right.plans h.sizes h.told h.over h.shows in
+      let back = leaves.sendings refl [] (with_turn (Did d) h.view) h.view refl refl b.kept h.txn h.number b.given b.latched p after (applied (newest_first z q) h.held) h.sizes_back (inr (refl, sym h.asked, refl, refl, refl, refl)) h.over_back leaves.does.0 in
+      let shows = shows_here (layout_of z) (applied (newest_first z p) (applied (newest_first z q) h.held)) h.sender h.view h.directory (sym h.directory_is) (back.1.0.sender h.below) in
+      h.another (stands_first _ h.sender _ shows.nodes h.tag h.body h.others h.first shows.linked (sym h.messages ∙ shows.messages) (ap (λ a. cell_in (applied (newest_first z p) (applied (newest_first z q) h.held) a)) (sym shows.head) ∙ ap cell_in h.first_is));
+  not_compared = λ c q p left w t n page slot before after right but is one at puts other lawful.
+      let over = lawful.before_undo c.kept c.asked c.given c.latched p left (inr (refl, refl, refl, refl, refl, refl)) right.asked.of right.asked.noted in
+      let written = subst (λ told. AreBackOver told c.kept c.given c.latched p.writes.items) is over in
+      other (subst (IsOneWrite (page * 16 + slot) after before) one written).1;
   made_again = λ w once twice h. true≢false (h.answer ∙ le-ltb (lsn_of once) (lsn_of once) (omega arith));
-} where
-  any : Job
-  any = record { level = 0; undo = false; bytes = [] }
+}

@@ -184,7 +184,7 @@ pub fn levels_are_lawful()
     ensures { AllLawful }
 {}
 
-/// Worked: levels that have one wrong answer more, which the laws refuse.
+/// Worked: levels that have one wrong answer more, or note too little, which the laws refuse.
 pub fn wrong_levels_are_refused()
     ensures { WrongLevels }
 {}
