@@ -1,5 +1,5 @@
 -- Open stores that are kept up.
-use Rattle.std.proofs.Common.{◌≡◌, ℕ, Bool, true, false, List, arith, inl, refl, sym, ap, subst, ◌∙◌, ⊎_elim}
+use Rattle.std.proofs.Common.{◌≡◌, ℕ, Bool, true, false, List, refl, sym, ap, subst, ◌∙◌, ⊎_elim}
 use Rattle.rq_disk.specs.declared.device.LogDevice as log_device
 use Rattle.rq_disk.specs.declared.device.PageDevice as page_device
 use Rattle.rq_model.specs.declared.refusal.Refusal.{Refusal}

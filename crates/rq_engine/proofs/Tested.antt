@@ -1,12 +1,12 @@
 -- What a start and a content leave where a test of theirs holds, and that none holds.
-use Rattle.std.proofs.Common.{◌≡◌, ◌≤◌, ◌<◌, ◌++◌, ℕ, Bool, true, false, List, [], ◌∷◌, length, drop, not, nat_lt, refl, sym, ap, ◌∙◌, Some, Option, cond}
+use Rattle.std.proofs.Common.{◌≡◌, ◌≤◌, ◌<◌, ◌++◌, ℕ, Bool, true, false, List, [], ◌∷◌, length, drop, not, refl, sym, ap, ◌∙◌, Some, Option, cond}
 use Rattle.std.proofs.lemmas.Bool.{false≢true, lt-ltb, le-ltb}
 use Rattle.rq_model.specs.declared.refusal.Refusal.{Refusal}
 use Rattle.rq_model.specs.declared.refusal.Refusal.TheVariants as why
 use Rattle.rq_model.specs.declared.txn.Txn.{Txn}
 use Rattle.rq_model.specs.History.{Call}
 use Rattle.rq_model.specs.History.Call.{Start_send, Start_receive, Start_receive_from, Start_close, Start_mark, Undo_next, Show}
-use Rattle.rq_model.specs.Ledger.{Ledger, found}
+use Rattle.rq_model.specs.Ledger.{found}
 use Rattle.rq_model.specs.Tests.{IsUnready, NoneHolds, first_of, log_full, newest, ready_tests, undo_cost}
 use Rattle.rq_model.specs.Vocabulary.{client_group, message_of}
 use Rattle.rq_groups.specs.Ends.{is_free_for}

@@ -14,7 +14,6 @@ use Rattle.rq_engine.specs.Tested.{tested}
 use Rattle.rq_engine.proofs.Opened.{state_is}
 use Rattle.rq_engine.specs.Answers.{IsCausedIn}
 use Rattle.rq_engine.specs.Earlier.{on}
-use Rattle.rq_engine.specs.KeptUp.{RefusalCounts}
 use Rattle.rq_engine.specs.Opened.{OpenStore}
 use Rattle.rq_engine.proofs.engine.Engine.content.Goals as goal
 use Rattle.rq_engine.proofs.engine.Engine.content.Goals.{in-Ok, in-Err}
