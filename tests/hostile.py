@@ -447,7 +447,7 @@ def is_refused(connection):
     except NoMemory:
         return True
     finally:
-        assert time.monotonic() - before < 1, time.monotonic() - before
+        assert time.monotonic() - before < 2, time.monotonic() - before
 
 
 def is_free(connection):
