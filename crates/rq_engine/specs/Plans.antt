@@ -27,7 +27,9 @@ use Rattle.rq_sound.specs.Groups.{slots_now}
 use Rattle.rq_sound.specs.Plans.{AreUnlatched, IsPlannedFrom}
 use Rattle.rq_sound.specs.Sound.{IsSound}
 use Rattle.rq_level.specs.LevelState.{LevelState}
-use Rattle.rq_planner.specs.Answered.{IsAnsweredBack, IsDeedFor, IsHeldUp, KnowsCells, MayBeAsked, RefusesPlan, SendTakesLowest}
+use Rattle.rq_level.specs.Meaning.{kept_at, meaning_of}
+use Rattle.rq_level.specs.Ops.{Job}
+use Rattle.rq_planner.specs.Answered.{IsAnswered, IsAnsweredBack, IsDeedFor, IsHeldUp, KnowsCells, MayBeAsked, MayPlan, RefusesPlan, SendTakesLowest, wants_of}
 use Rattle.rq_planner.specs.Asked.{Asked, Task, doing_sender, known}
 use Rattle.rq_planner.specs.Asked.Task.{Chain, Tag}
 use Rattle.rq_engine.specs.Aborts.{UndoTakesLowest}
@@ -97,11 +99,16 @@ pub record IsToStart (s : State) (t : Txn) (n : ℕ) (end : End) (asked : Option
   pub is : asked ≡ Some task
   pub may : MayStart s t n end task
 
--- it was planned, and is under way with its lock
+-- an operation with this plan is under way with its lock
+abbrev pub started_with : State → Txn → ℕ → End → Planned → State
+started_with s t n end plan =
+    record s { rows = change_row t (row_started (under_plan n plan)) s.rows; ends = with_end t end s.ends }
+
+-- it was planned
 pub record HasStarted (s : State) (t : Txn) (n : ℕ) (end : End) (task : Task) (new : State) : Type 0 where
   pub plan : Planned
   pub planned : IsDeedPlan s task plan
-  pub state : new ≡ record s { rows = change_row t (row_started (under_plan n plan)) s.rows; ends = with_end t end s.ends }
+  pub state : new ≡ started_with s t n end plan
 
 -- the inverse of the finished operation is under way, with these writes
 abbrev pub turned_back : State → Txn → ℕ → Finished → List SlotWrite → State
@@ -115,11 +122,24 @@ pub record HasTurnedBack (s : State) (t : Txn) (n : ℕ) (f : Finished) (new : S
   pub planned : IsInversePlan s f.deed writes
   pub state : new ≡ turned_back s t n f writes
 
--- the levels of the store, which know its slots, answer this to a record that is to be taken back
-pub record LevelsAnswer (s : State) (told : Record) (answer : Result Plan Refusal) : Type 0 where
+-- what a level may answer, where the levels of a store keep so much
+abbrev pub LevelAnswer : Type 1
+LevelAnswer = State → List LevelState → Result Plan Refusal → Type 0
+
+-- to something that is to be done
+abbrev pub to_job : Job → LevelAnswer
+to_job job s levels answer = IsAnswered s (wants_of levels job.level) job
+    (MayPlan s (meaning_of job.level) (kept_at levels job.level) job) answer
+
+-- to a record that is to be taken back
+abbrev pub to_undo : Record → LevelAnswer
+to_undo told s levels answer = IsAnsweredBack s levels told answer
+
+-- the levels of the store, which know its slots, answer so
+pub record LevelsAnswer (s : State) (MayAnswer : LevelAnswer) (answer : Result Plan Refusal) : Type 0 where
   pub levels : List LevelState
   pub knows : KnowsCells s.sizes s.images levels
-  pub answered : IsAnsweredBack (known_part s) levels told answer
+  pub answered : MayAnswer (known_part s) levels answer
 
 -- what is planned begins, unless memory is wanting; what is not planned is refused as it was
 abbrev pub ComesOf : {X : Type 0} → Result Plan Refusal → (HasBegun : Plan → Type 0) → Result X Refusal → Type 0
@@ -127,11 +147,11 @@ ComesOf (Ok p) HasBegun (Ok x) = HasBegun p
 ComesOf (Ok p) HasBegun (Err r) = r ≡ why.NoMemory
 ComesOf (Err r) HasBegun answer = answer ≡ Err r
 
--- what takes this record back is asked of the levels, and begins as they plan it
-pub record BeginsBack {X : Type 0} (s : State) (told : Record) (HasBegun : Plan → Type 0) (answer : Result X Refusal)
-    : Type 0 where
+-- the levels are asked, and what they plan begins
+pub record BeginsAsPlanned {X : Type 0} (s : State) (MayAnswer : LevelAnswer) (HasBegun : Plan → Type 0)
+    (answer : Result X Refusal) : Type 0 where
   pub plan : Result Plan Refusal
-  pub asked : LevelsAnswer s told plan
+  pub asked : LevelsAnswer s MayAnswer plan
   pub begun : ComesOf plan HasBegun answer
 
 -- What is answered to a start of what is asked. It is refused as latched exactly where latches hold it up, and for want of memory

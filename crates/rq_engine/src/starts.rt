@@ -3,14 +3,14 @@ ghost use Rattle.std.specs.Prelude.{◌≡◌, ◌≢◌, ◌≤◌, ◌<◌, If
 ghost use Rattle.rq_model.specs.Vocabulary.{is_some};
 ghost use Rattle.rq_views.specs.InStore.{IsDeedOf};
 ghost use Rattle.rq_txn.specs.Rows.{change_row, row_started, under_of};
-ghost use Rattle.rq_groups.specs.Sides.{is_free_end, with_end};
+ghost use Rattle.rq_groups.specs.Sides.{is_free_end};
 ghost use Rattle.rq_planner.specs.Answered.{IsPlanned};
 ghost use Rattle.rq_planner.specs.Asked.{Do, IsTaskOf, Task, task_by};
 ghost use Rattle.rq_planner.specs.Lawful.{IsLawfulPlan};
 ghost use Rattle.rq_engine.specs.Opened.{LeavesDevices};
 ghost use Rattle.rq_engine.specs.Answers.{HasNothingUnderWay};
 ghost use Rattle.rq_engine.specs.Invariant.{end_bytes};
-ghost use Rattle.rq_engine.specs.Plans.{HasStarted, IsStartOf, IsToStart, is_latched, known_part, planned_of, under_plan};
+ghost use Rattle.rq_engine.specs.Plans.{BeginsAsPlanned, HasStarted, IsStartOf, IsToStart, LevelsAnswer, is_latched, known_part, planned_of, started_with, to_job};
 ghost use Rattle.rq_engine.specs.Sends.{FitsUnder, HasRoom};
 
 use crate::engine::Engine;
@@ -37,6 +37,8 @@ impl<P: PageDevice, L: LogDevice, B: Level> Engine<P, L, B> {
         requires may { IsToStart self.old.state txn number end (task_by op.now.level op.now.bytes) }
         ensures started { (d : Task) → task_by op.now.level op.now.bytes ≡ Some d → IsStartOf self.old.state (Do d)
             (HasStarted self.old.state txn number end d self.new.state) result }
+        ensures answered { BeginsAsPlanned self.old.state (to_job op.now)
+            (λ plan. self.new.state ≡ started_with self.old.state txn number end (planned_of op.now.level plan)) result }
         ensures devices { LeavesDevices self.old self.new }
         ensures plain { IfErr result (λ r. r ≢ Refusal.Failed) }
         ensures refused { OnErr result (self.new ≡ self.old) }
@@ -52,6 +54,7 @@ impl<P: PageDevice, L: LogDevice, B: Level> Engine<P, L, B> {
         requires forward { op.now.undo ≡ false }
         requires asked { is_some (task_by op.now.level op.now.bytes) ≡ true }
         ensures same { self.new ≡ self.old }
+        ensures answered { LevelsAnswer self.old.state (to_job op.now) result }
         ensures lawful { IfOk result (IsLawfulPlan self.old.state.sizes op.now.level) }
         ensures planned { (d : Task) → task_by op.now.level op.now.bytes ≡ Some d
             → IsTaskOf self.old.state.sizes d → IsPlanned (known_part self.old.state) (Do d) result }
@@ -75,11 +78,7 @@ impl<P: PageDevice, L: LogDevice, B: Level> Engine<P, L, B> {
         requires lawful { IsLawfulPlan self.old.state.sizes level plan }
         requires inside { IsDeedOf self.old.state.sizes (planned_of level plan).deed }
         requires log { HasRoom self.old.state plan.writes.items }
-        ensures started { OnOk result (self.new.state ≡ record self.old.state {
-          rows = change_row txn
-              (row_started (under_plan number (planned_of level plan))) self.old.state.rows;
-          ends = with_end txn end self.old.state.ends;
-        }) }
+        ensures started { OnOk result (self.new.state ≡ started_with self.old.state txn number end (planned_of level plan)) }
         ensures devices { LeavesDevices self.old self.new }
         ensures refusal { IfErr result (λ r. r ≡ Refusal.NoMemory) }
         ensures refused { OnErr result (self.new ≡ self.old) }

@@ -20,7 +20,7 @@ ghost use Rattle.rq_planner.specs.Asked.{Undo};
 ghost use Rattle.rq_planner.specs.Lawful.{IsLawfulInverse};
 ghost use Rattle.rq_model.specs.declared.record.Deed.{Deed};
 ghost use Rattle.rq_views.specs.InStore.{IsDeedOf};
-ghost use Rattle.rq_engine.specs.Plans.{BeginsBack, HasTurnedBack, IsStartOf, LevelsAnswer, known_part, turned_back};
+ghost use Rattle.rq_engine.specs.Plans.{BeginsAsPlanned, HasTurnedBack, IsStartOf, LevelsAnswer, known_part, to_undo, turned_back};
 
 use crate::engine::Engine;
 use rq_disk::{LogDevice, PageDevice};
@@ -85,7 +85,7 @@ impl<P: PageDevice, L: LogDevice, B: Level> Engine<P, L, B> {
         requires log { log_full (ledger_of self.old.state) (undo_cost (Some (op_done done.now))) ≡ false }
         ensures started { IsStartOf self.old.state (Undo done.now.deed)
             (HasTurnedBack self.old.state txn number done.now self.new.state) result }
-        ensures answered { BeginsBack self.old.state (end_of txn done.now)
+        ensures answered { BeginsAsPlanned self.old.state (to_undo (end_of txn done.now))
             (λ plan. self.new.state ≡ turned_back self.old.state txn number done.now plan.writes.items) result }
         ensures devices { LeavesDevices self.old self.new }
         ensures plain { IfErr result (λ r. r ≢ Refusal.Failed) }
@@ -113,7 +113,7 @@ impl<P: PageDevice, L: LogDevice, B: Level> Engine<P, L, B> {
         requires logged { (lsn : ℕ) × IsLogged self.old.state.records lsn told.now }
         requires reads { is_some (deed_back told.now) ≡ true }
         ensures same { self.new ≡ self.old }
-        ensures answered { LevelsAnswer self.old.state told.now result }
+        ensures answered { LevelsAnswer self.old.state (to_undo told.now) result }
         ensures lawful { IfOk result (IsLawfulInverse self.old.state.sizes) }
         ensures planned { (d : Deed) → deed_back told.now ≡ Some d → IsDeedOf self.old.state.sizes d
             → IsPlanned (known_part self.old.state) (Undo d) result }

@@ -7,7 +7,7 @@ use Rattle.rq_planner.specs.Asked.Asked.{Do}
 use Rattle.rq_planner.specs.Lawful.{IsLawfulPlan}
 use Rattle.rq_planner.proofs.Knowing.{is_one}
 use Rattle.rq_planner.proofs.Asking.{asks_to_do, there_is_one}
-use Rattle.rq_engine.specs.Plans.{known_part}
+use Rattle.rq_engine.specs.Plans.{LevelsAnswer, known_part, to_job}
 use Rattle.rq_engine.proofs.Opened.{state_is}
 use Rattle.rq_engine.proofs.engine.Engine.plan.Goals as goal
 
@@ -27,3 +27,11 @@ pub returns-clause-planned : goal.returns-clause-planned
 returns-clause-planned g c d asked =
     subst (λ (s : State). IsTaskOf s.sizes d → IsPlanned (known_part s) (Do d) c.plan.result) (state_is c.self.view_is)
     (subst (λ (rows : List Row). IsTaskOf c.self.inside.pages.sizes d → IsPlanned (known_from c.self.inside.pages rows) (Do d) c.plan.result) c.spare-room.ensures (c.plan.ensures.planned (Do d) (asks_to_do c.args.op.now d c.requires.forward asked)))
+
+pub returns-clause-answered : goal.returns-clause-answered
+returns-clause-answered g c =
+    subst (λ (s : State). LevelsAnswer s (to_job c.args.op.now) c.plan.result) (state_is c.self.view_is) (record {
+      levels = c.self.inside.planner;
+      knows = c.self.invariant.cells;
+      answered = subst (λ (rows : List Row). to_job c.args.op.now (known_from c.self.inside.pages rows) c.self.inside.planner c.plan.result) c.spare-room.ensures c.plan.ensures.answered;
+    })

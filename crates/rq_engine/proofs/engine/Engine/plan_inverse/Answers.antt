@@ -10,7 +10,7 @@ use Rattle.rq_planner.specs.Lawful.{IsLawfulInverse}
 use Rattle.rq_planner.proofs.Asking.{asks_back, has_place}
 use Rattle.rq_planner.proofs.Knowing.{is_one}
 use Rattle.rq_level.proofs.EachLevel.{all_lawful}
-use Rattle.rq_engine.specs.Plans.{LevelsAnswer, known_part}
+use Rattle.rq_engine.specs.Plans.{LevelsAnswer, known_part, to_undo}
 use Rattle.rq_engine.proofs.Opened.{state_is}
 use Rattle.rq_engine.proofs.engine.Engine.plan_inverse.Goals as goal
 
@@ -27,7 +27,7 @@ invariant_of-self g c = record { kept = rw (c.spare-room.ensures) c.self.invaria
 
 pub returns-clause-answered : goal.returns-clause-answered
 returns-clause-answered g c =
-    subst (λ (s : State). LevelsAnswer s c.args.told.now c.plan_inverse.result) (state_is c.self.view_is) (record {
+    subst (λ (s : State). LevelsAnswer s (to_undo c.args.told.now) c.plan_inverse.result) (state_is c.self.view_is) (record {
       levels = c.self.inside.planner;
       knows = c.self.invariant.cells;
       answered = subst (λ (rows : List Row). IsAnsweredBack (known_from c.self.inside.pages rows) c.self.inside.planner c.args.told.now c.plan_inverse.result) c.spare-room.ensures c.plan_inverse.ensures.answered;

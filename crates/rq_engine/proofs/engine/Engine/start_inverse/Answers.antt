@@ -14,7 +14,7 @@ use Rattle.rq_engine.specs.Answers.{HasNothingUnderWay}
 use Rattle.rq_engine.specs.Earlier.{on}
 use Rattle.rq_engine.specs.Invariant.{IsDoneConsistent, IsLogged}
 use Rattle.rq_level.specs.declared.writes.Plan.{Plan}
-use Rattle.rq_engine.specs.Plans.{HasTurnedBack, LevelsAnswer, known_part, turned_back}
+use Rattle.rq_engine.specs.Plans.{HasTurnedBack, LevelsAnswer, known_part, to_undo, turned_back}
 use Rattle.rq_engine.specs.Sends.{HasRoom}
 use Rattle.rq_engine.proofs.AbortCalls.{turned_idle}
 use Rattle.rq_engine.proofs.Leveled.{begins_planned, few_writes, never_failed, plain_memory, start_answered, start_refused}
@@ -75,7 +75,7 @@ returns-in-Ok-clause-answered g c =
     let f = c.args.done.now in
     record {
       plan = Ok c.in-Ok.plan;
-      asked = subst (λ (r : Record). LevelsAnswer s r (Ok c.in-Ok.plan)) c.op_end_of.ensures c.in-Ok.ensures.answered;
+      asked = subst (λ (r : Record). LevelsAnswer s (to_undo r) (Ok c.in-Ok.plan)) c.op_end_of.ensures c.in-Ok.ensures.answered;
       begun = begins_planned c.in-Ok.plan (λ (p : Plan). c.launch.new.self.state ≡ turned_back s c.args.txn c.args.number f p.writes.items) c.launch.result
           (λ begun. begun ∙ ap (λ (x : State). turned_back x c.args.txn c.args.number f c.in-Ok.plan.writes.items) (state_is c.in-Ok.ensures.same))
           c.launch.ensures.launched c.launch.ensures.refusal;
@@ -85,7 +85,7 @@ pub returns-in-Err-clause-answered : goal.returns-in-Err-clause-answered
 returns-in-Err-clause-answered g c =
     record {
       plan = Err c.in-Err.why;
-      asked = subst (λ (r : Record). LevelsAnswer c.args.self.now.state r (Err c.in-Err.why)) c.op_end_of.ensures c.in-Err.ensures.answered;
+      asked = subst (λ (r : Record). LevelsAnswer c.args.self.now.state (to_undo r) (Err c.in-Err.why)) c.op_end_of.ensures c.in-Err.ensures.answered;
       begun = refl;
     }
 

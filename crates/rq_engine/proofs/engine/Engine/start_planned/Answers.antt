@@ -1,18 +1,18 @@
-use Rattle.std.proofs.Common.{◌≡◌, ℕ, refl, sym, ◌∙◌, ap, subst, true}
+use Rattle.std.proofs.Common.{◌≡◌, ℕ, Ok, Err, refl, sym, ◌∙◌, ap, subst, true}
 use Rattle.rq_model.specs.Vocabulary.{is_some}
 use Rattle.rq_views.specs.InStore.{IsDeedOf}
-use Rattle.rq_txn.specs.Rows.{change_row, row_started}
-use Rattle.rq_groups.specs.Sides.{is_free_end, with_end}
+use Rattle.rq_groups.specs.Sides.{is_free_end}
 use Rattle.rq_store.specs.State.{State}
+use Rattle.rq_level.specs.declared.writes.Plan.{Plan}
 use Rattle.rq_planner.specs.Asked.{Task}
 use Rattle.rq_planner.specs.Asked.Asked.{Do}
 use Rattle.rq_planner.specs.Lawful.{IsLawfulPlan}
 use Rattle.rq_planner.proofs.Asking.{asked_of}
 use Rattle.rq_engine.specs.Answers.{HasNothingUnderWay}
 use Rattle.rq_engine.specs.Earlier.{on}
-use Rattle.rq_engine.specs.Plans.{HasStarted, IsWithin, planned_of, under_plan}
+use Rattle.rq_engine.specs.Plans.{HasStarted, IsWithin, planned_of, started_with}
 use Rattle.rq_engine.specs.Sends.{HasRoom}
-use Rattle.rq_engine.proofs.Leveled.{deed_inside, deed_plan, never_failed, plain_memory, plan_room, some_task, start_answered, start_refused, within}
+use Rattle.rq_engine.proofs.Leveled.{begins_planned, deed_inside, deed_plan, never_failed, plain_memory, plan_room, some_task, start_answered, start_refused, within}
 use Rattle.rq_engine.proofs.Opened.{state_is}
 use Rattle.rq_engine.proofs.engine.Engine.start_planned.Goals as goal
 
@@ -58,7 +58,7 @@ returns-in-Ok-clause-started g c d e =
     (λ begun. record {
       plan = planned_of c.level.result plan;
       planned = deed_plan s d plan is.plan c.level.result (c.level.ensures ∙ asked_of c.args.op.now.level c.args.op.now.bytes d e) lawful;
-      state = begun ∙ ap (λ (x : State). record x { rows = change_row c.args.txn (row_started (under_plan c.args.number (planned_of c.level.result plan))) x.rows; ends = with_end c.args.txn c.args.end x.ends }) (state_is c.in-Ok.ensures.same);
+      state = begun ∙ ap (λ (x : State). started_with x c.args.txn c.args.number c.args.end (planned_of c.level.result plan)) (state_is c.in-Ok.ensures.same);
     })
     c.start.ensures.started c.start.ensures.refusal
 
@@ -74,3 +74,19 @@ returns-in-Ok-clause-plain g c = plain_memory c.start.result c.start.ensures.ref
 
 pub returns-in-Err-clause-plain : goal.returns-in-Err-clause-plain
 returns-in-Err-clause-plain g c = never_failed _ c.in-Err.refusal (c.in-Err.ensures.planned c.requires.may.task c.requires.may.is (within c.args.self.now.state.sizes c.requires.may.task c.requires.may.may.inside)).causes
+
+pub returns-in-Ok-clause-answered : goal.returns-in-Ok-clause-answered
+returns-in-Ok-clause-answered g c =
+    let s = c.args.self.now.state in
+    let plan = c.in-Ok.plan in
+    record {
+      plan = Ok plan;
+      asked = c.in-Ok.ensures.answered;
+      begun = begins_planned plan (λ (p : Plan). c.start.new.self.state ≡ started_with s c.args.txn c.args.number c.args.end (planned_of c.args.op.now.level p)) c.start.result
+          (λ begun. begun ∙ ap (λ (x : State). started_with x c.args.txn c.args.number c.args.end (planned_of c.level.result plan)) (state_is c.in-Ok.ensures.same)
+          ∙ ap (λ (n : ℕ). started_with s c.args.txn c.args.number c.args.end (planned_of n plan)) c.level.ensures)
+          c.start.ensures.started c.start.ensures.refusal;
+    }
+
+pub returns-in-Err-clause-answered : goal.returns-in-Err-clause-answered
+returns-in-Err-clause-answered g c = record { plan = Err c.in-Err.refusal; asked = c.in-Err.ensures.answered; begun = refl }
