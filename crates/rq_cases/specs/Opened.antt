@@ -1,5 +1,5 @@
 -- Devices in memory, as the worked run finds them and as its calls leave them.
-use Rattle.std.specs.Prelude.{◌≡◌, ℕ, List, [], ◌∷◌, ◌++◌, false, true, Vec, Box}
+use Rattle.std.specs.Prelude.{◌≡◌, ℕ, List, [], ◌∷◌, ◌++◌, false, true, None, Vec, Box}
 use Rattle.std.specs.declared.alloc.Global.{Global}
 use Rattle.rq_model.specs.declared.record.Record.{Record}
 use Rattle.rq_disk.specs.Memory.{fresh_log, fresh_pages}
@@ -9,6 +9,7 @@ use Rattle.rq_disk.specs.declared.mem_log.MemLog.{MemLog}
 use Rattle.rq_disk.specs.declared.mem_pages.MemPages.{MemPages}
 use Rattle.rq_disk.specs.declared.mem_pages.PageCall.TheVariants.{Write}
 use Rattle.rq_log.specs.Spelled.{spelled}
+use Rattle.rq_pool.specs.Frames.{in_order}
 use Rattle.rq_store.specs.State.{State}
 use Rattle.rq_engine.specs.Opened.{OpenStore}
 
@@ -37,6 +38,14 @@ pub record IsWrittenSince (old new : MemPages) (page : ℕ) (image : List ℕ) :
   pub calls : new.calls.items ≡ old.calls.items ++ Write page kept ∷ []
   pub failures : new.failures ≡ old.failures
 
--- an open store over them: the directory page and the cell page were changed since they were read
+-- an open store over them: each page stands in a frame, and the directory page and the cell page were changed since they were read
 abbrev pub over : State → MemPages → MemLog → OpenStore MemPages MemLog
-over s pages log = record { state = s; pages = pages; log = log; changed = false ∷ true ∷ true ∷ []; replacing = false }
+over s pages log = record {
+  state = s;
+  pages = pages;
+  log = log;
+  changed = false ∷ true ∷ true ∷ [];
+  frames = in_order 0 3;
+  apart = None;
+  replacing = false;
+}

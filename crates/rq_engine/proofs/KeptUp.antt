@@ -1,19 +1,21 @@
 -- Open stores that are kept up.
-use Rattle.std.proofs.Common.{◌≡◌, ℕ, true, false, List, arith, inl, refl, sym, ap, subst, ◌∙◌}
+use Rattle.std.proofs.Common.{◌≡◌, ℕ, true, false, List, refl, sym, ap, subst, ◌∙◌, ⊎_elim}
 use Rattle.rq_disk.specs.declared.device.LogDevice as log_device
 use Rattle.rq_disk.specs.declared.device.PageDevice as page_device
 use Rattle.rq_model.specs.declared.refusal.Refusal.{Refusal}
 use Rattle.rq_model.specs.declared.refusal.Refusal.TheVariants as why
 use Rattle.rq_model.specs.declared.txn.Txn.{Txn}
 use Rattle.rq_model.specs.History.{Call}
-use Rattle.rq_content.specs.Read.{IsBroken, StopsFor}
+use Rattle.rq_content.specs.Read.{IsNoDamage, StopsFor}
 use Rattle.rq_groups.specs.declared.End.{End}
 use Rattle.rq_groups.specs.Sides.{with_end}
 use Rattle.rq_page.specs.Sizes.{Sizes}
 use Rattle.rq_planner.specs.Answered.{IsDeedFor, RefusesPlan}
 use Rattle.rq_planner.specs.Asked.{Task}
+use Rattle.rq_pool.proofs.Fetched.{read_none}
 use Rattle.rq_pool.proofs.KeptUp.{kept_still}
-use Rattle.rq_pool.specs.Reading.{OnlyRead}
+use Rattle.rq_pool.specs.Fetching.{AreAllFramed, MayHaveRead}
+use Rattle.rq_pool.specs.Pooled.{Pooled}
 use Rattle.rq_store.specs.State.{State}
 use Rattle.rq_txn.specs.Rows.{Row, change_row, row_started}
 use Rattle.rq_engine.specs.Answers.{HasNothingUnderWay}
@@ -25,15 +27,6 @@ use Rattle.rq_engine.specs.Plans.{Planned, under_plan}
 -- lists but for images, over images that stayed
 pub but_same : (lists new : State) → AreButRead lists new → new.images ≡ lists.images → new ≡ lists
 but_same lists new but same = but ∙ ap (λ (i : List (List _)). record lists { images = i }) same
-
--- a device that was not called was only read
-read_none : {P : Type 0} (g : page_device.Ghosts P) (d : P) → OnlyRead g d d
-read_none g d = record {
-  same = refl;
-  honest = λ h. h;
-  crash = λ p c may. may;
-  time = record { later = omega arith; nothing_else = λ t c before since. inl since; keeps = λ t c before past. past };
-}
 
 module _ {P L : Type 0} (g : page_device.Ghosts P) where
   -- no device was called
@@ -83,11 +76,28 @@ module _ {P L : Type 0} (old new : OpenStore P L) where
   planned_leaves IsHeld (why.Damaged d) causes is = subst (λ (s : OpenStore P L). AreButRead old.state s.state) (sym is) refl
   planned_leaves IsHeld _ causes is = absurd causes
 
--- and of a content
-module _ {P L : Type 0} (g : page_device.Ghosts P) (old : OpenStore P L) (z : Sizes) (images : List (List ℕ)) (rows : List Row) where
-  shown_leaves : (r : Refusal) → IsBroken z images rows r → RefusedButRead false old r old × RefusalCounts g r old.pages old.pages
-  shown_leaves r broken = rw (broken.page) (refl, refl)
+-- what stopped a content leaves
+module _ {P L : Type 0} (g : page_device.Ghosts P) (rows : List Row) where
+  left_of : (old new : OpenStore P L) (r : Refusal) → AreButRead old.state new.state → StopsFor g rows (pooled old) r (pooled new) → RefusedButRead false old r new
+  left_of old new why.NoMemory but stops = but
+  left_of old new why.DiskRead but stops = but
+  left_of old new (why.Damaged d) but stops = but
+  left_of old new _ but stops = absurd stops
 
-  pub content_leaves : (r : Refusal) → StopsFor z images rows r → RefusedButRead false old r old × RefusalCounts g r old.pages old.pages
-  content_leaves why.NoMemory stops = (refl, refl)
-  content_leaves r stops = shown_leaves r stops
+  pub content_leaves : (inside old new : OpenStore P L) → inside ≡ old → (r : Refusal) → new.state ≡ record inside.state { sizes = new.state.sizes; images = new.state.images } → MayHaveRead g (pooled inside) (pooled new) → StopsFor g rows (pooled inside) r (pooled new)
+      → RefusedButRead false old r new
+  content_leaves inside old new is r rest read stops =
+      subst (λ (o : OpenStore P L). RefusedButRead false o r new) is (left_of inside new r (rest ∙ ap (λ (z : Sizes). record inside.state { sizes = z; images = new.state.images }) (read.kept 0).sizes) stops)
+
+-- and how often the device has failed then
+module _ {P : Type 0} (g : page_device.Ghosts P) (rows : List Row) where
+  pub content_counts : (old new : Pooled P) (r : Refusal) → StopsFor g rows old r new → RefusalCounts g r old.device new.device
+  content_counts old new why.NoMemory stops = stops
+  content_counts old new why.DiskRead stops = stops.1
+  content_counts old new (why.Damaged d) stops = stops.1
+  content_counts old new _ stops = absurd stops
+
+-- No read fails where each page stands in a frame.
+pub none_outside : {P : Type 0} (g : page_device.Ghosts P) (rows : List Row) (old new : Pooled P) (r : Refusal) → AreAllFramed old → StopsFor g rows old r new → IsNoDamage r → r ≡ why.NoMemory
+none_outside g rows old new r all stops none = ⊎_elim (λ memory. memory) (λ (failed : r ≡ why.DiskRead).
+    let outside = (subst (λ (e : Refusal). StopsFor g rows old e new) failed stops).0 in absurd (outside.outside (all outside.page outside.within))) none

@@ -217,7 +217,7 @@ module _ {P L : Type 0} (p : page_device.Ghosts P) (l : log_device.Ghosts L) (n 
       (images : p.honest old.pages → (q : ℕ) (c : List ℕ) → 1 ≤ q → q < page_count old.state.sizes → p.may_be old.pages q c → c ≡ image_in old.state.images q) (cuts : old.replacing ≡ false → l.honest old.log → (e : List Record) → IsEarlier e old.state → IsSound (on e old.state) → AreFit p (over e old) → LeavesCut p l (over e old))
       (falls : l.honest log → l.honest old.log) (run : old.replacing ≡ false → l.honest log → LeavesOnly l old.log log (λ c. (c ≡ spelled old.state.records) ⊎ (c ≡ spelled (based old.state.incarnation old.state.records)))) where
     abbrev mid : OpenStore P L
-    mid = record { state = checkpointed old.state; pages = old.pages; log = log; changed = old.changed; replacing = old.replacing }
+    mid = record old { state = checkpointed old.state; log = log }
 
     pub told_grows : new.log ≡ log → (p.honest new.pages → p.honest old.pages) → Only (spelled (based old.state.incarnation old.state.records)) (l.may_leave log) → TellsSizes p (with_tags n old.state.sizes) old.pages new.pages
         → ((page : ℕ) (c : List ℕ) → page_count old.state.sizes ≤ page → page < page_count (with_tags n old.state.sizes) → p.may_be old.pages page c → IsFormatted (with_tags n old.state.sizes) page c) → KeepsOrGrows p l n old new

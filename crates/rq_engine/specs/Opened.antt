@@ -1,5 +1,5 @@
 -- What contracts see of an engine.
-use Rattle.std.specs.Prelude.{◌≡◌, ℕ, ◌+◌, ◌%◌, ◌^◌, ◌<◌, Bool, true, false, List, length, Result, Ok, Err}
+use Rattle.std.specs.Prelude.{◌≡◌, ℕ, ◌+◌, ◌%◌, ◌^◌, ◌<◌, Bool, true, false, List, length, Option, Result, Ok, Err}
 use Rattle.rq_model.specs.declared.refusal.Refusal.{Refusal}
 use Rattle.rq_model.specs.declared.refusal.Refusal.TheVariants as why
 use Rattle.rq_model.specs.declared.refusal.Damage.TheVariants as damage
@@ -7,12 +7,13 @@ use Rattle.rq_disk.specs.declared.device.LogDevice as log_device
 use Rattle.rq_disk.specs.declared.device.PageDevice as page_device
 use Rattle.rq_log.specs.Places.{IsPlace}
 use Rattle.rq_pool.specs.declared.Written.{Written}
+use Rattle.rq_pool.specs.Held.{Held}
 use Rattle.rq_pool.specs.Pooled.{Pooled}
 use Rattle.rq_pool.specs.Writing.{AnswersWhen}
 use Rattle.rq_store.specs.State.{State}
 
--- An open store: its lists, its devices, and of each page whether it was changed since it was read or written. It also has
--- whether a checkpoint has failed as it replaced the log. Where one has, a crash leaves the log as it was, or as it was to be.
+-- An open store: its lists, its devices, of each page whether it was changed since it was read or written, and which pages stand
+-- in frames. It also has whether a checkpoint has failed as it replaced the log. Where one has, a crash leaves the log as it was, or as it was to be.
 pub record OpenStore (P L : Type 0) : Type 0 where
   pub state : State
   -- the device of the pages
@@ -20,6 +21,9 @@ pub record OpenStore (P L : Type 0) : Type 0 where
   -- the device of the log
   pub log : L
   pub changed : List Bool
+  -- which page stands in each frame, and which one apart
+  pub frames : List Held
+  pub apart : Option ℕ
   pub replacing : Bool
 
 -- both devices have been honest
@@ -33,7 +37,14 @@ LeavesDevices old new = (new.pages ≡ old.pages) × (new.log ≡ old.log) × (n
 
 -- its pages
 abbrev pub pooled : {P L : Type 0} → OpenStore P L → Pooled P
-pooled s = record { device = s.pages; sizes = s.state.sizes; images = s.state.images; changed = s.changed }
+pooled s = record {
+  device = s.pages;
+  sizes = s.state.sizes;
+  images = s.state.images;
+  changed = s.changed;
+  frames = s.frames;
+  apart = s.apart;
+}
 
 -- Why nothing was handed over or forced. The store had failed before, and nothing changes. Or the device of the log failed now,
 -- as its count of failures tells.

@@ -37,7 +37,7 @@ impl<P: PageDevice, L: LogDevice, B: Level> Engine<P, L, B> {
     /// The committed content of each sender's group, by rising number.
     ///
     /// # Errors
-    /// `Failed`, `Unfinished` where any operation is under way, `NoMemory`.
+    /// `Failed`, `Unfinished` where any operation is under way, `NoMemory`, and as of `Pages::look`.
     pub fn content(&mut self) -> Result<Vec<GroupContent>, Refusal>
         ensures answered { AnswersLegally P.PageDevice L.LogDevice self.old Show
             (λ groups. Gave_content (map group_of groups.items)) result self.new }
@@ -56,7 +56,8 @@ impl<P: PageDevice, L: LogDevice, B: Level> Engine<P, L, B> {
         if self.transactions.any_under_way() {
             return Err(Refusal::Unfinished);
         }
-        match content(self.alloc, &self.pages, &self.transactions) {
+        self.pages.shows_framed();
+        match content(self.alloc, &mut self.pages, &self.transactions) {
             Ok(groups) => Ok(groups),
             Err(refusal) => Err(refusal),
         }

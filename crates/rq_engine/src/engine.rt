@@ -93,6 +93,8 @@ impl<P: PageDevice, L: LogDevice, B: Level> Model for Engine<P, L, B> {
       pages = e.pages.device;
       log = e.log.device;
       changed = e.pages.changed;
+      frames = e.pages.frames;
+      apart = e.pages.apart;
       replacing = is_some e.log.replacing;
     } };
 
@@ -157,6 +159,8 @@ impl<P: PageDevice + Drop, L: LogDevice + Drop, B: Level> Engine<P, L, B> {
           pages = pages.device;
           log = log.device;
           changed = pages.changed;
+          frames = pages.frames;
+          apart = pages.apart;
           replacing = false;
         } }
     {

@@ -129,6 +129,8 @@ module _ {P L : Type 0} (p : page_device.Ghosts P) (l : log_device.Ghosts L) (pa
       pages = now.device;
       log = new.device;
       changed = now.changed;
+      frames = now.frames;
+      apart = now.apart;
       replacing = false;
     }
 

@@ -46,6 +46,8 @@ returns-in-Err-clause-answered g c =
       pages = i.pages.device;
       log = c.forget_force.new.self.device;
       changed = i.pages.changed;
+      frames = i.pages.frames;
+      apart = i.pages.apart;
       replacing = is_some c.forget_force.new.self.replacing;
     } in
     let mid = c.grow.new.self in

@@ -85,6 +85,8 @@ returns-in_err-put_base-clause-fit g c =
       pages = i.pages.device;
       log = c.put_base.new.self.device;
       changed = i.pages.changed;
+      frames = i.pages.frames;
+      apart = i.pages.apart;
       replacing = is_some c.put_base.new.self.replacing;
     } in
     based_grows g.P.PageDevice g.L.LogDevice c.args.grown.now.tags old new
@@ -127,6 +129,8 @@ returns-in_err-tell_sizes-clause-fit g c =
       pages = c.tell_sizes.new.pages.device;
       log = c.put_base.new.self.device;
       changed = c.tell_sizes.new.pages.changed;
+      frames = c.tell_sizes.new.pages.frames;
+      apart = c.tell_sizes.new.pages.apart;
       replacing = is_some c.put_base.new.self.replacing;
     } in
     told_grows g.P.PageDevice g.L.LogDevice n old new c.put_base.new.self.device c.requires.could c.requires.forced c.requires.may (c.shows_kept.ensures.spelled, c.shows_kept.ensures.based)
@@ -172,6 +176,8 @@ returns-clause-fit g c =
       pages = c.tell_sizes.new.pages.device;
       log = c.note_base-lsn.new.self.device;
       changed = c.tell_sizes.new.pages.changed;
+      frames = c.tell_sizes.new.pages.frames;
+      apart = c.tell_sizes.new.pages.apart;
       replacing = is_some c.note_base-lsn.new.self.replacing;
     } in
     told_grows g.P.PageDevice g.L.LogDevice n old new c.put_base.new.self.device c.requires.could c.requires.forced c.requires.may (c.shows_kept.ensures.spelled, c.shows_kept.ensures.based)
