@@ -629,6 +629,7 @@ def until_it_rests(syncs):
     """Waits until nothing was synced for longer than the page writer rests, and tells how many syncs there were."""
     until = time.monotonic() + LONGEST
     while True:
+        time.sleep(0.1)
         before = syncs.stat().st_size
         time.sleep(1.5)
         if syncs.stat().st_size == before:
