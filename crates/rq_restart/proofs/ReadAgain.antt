@@ -33,7 +33,7 @@ use Rattle.rq_analysis.specs.Pages.IsNextUndo.{Undoes}
 use Rattle.rq_restart.specs.declared.analysis.Analysis.{Analysis}
 use Rattle.rq_restart.specs.declared.places.Place.{Place}
 use Rattle.rq_analysis.specs.Dues.{end_due}
-use Rattle.rq_restart.specs.Again.{HasRecord, IsLikeUndo, NotGivenFor, NotMadeFor, NotReadFor, NotToldFor, NotUndoneFor, WroteOver, due_told, told_again, undo_told}
+use Rattle.rq_restart.specs.Again.{HasRecord, IsLikeUndo, IsToldByOwn, NotGivenFor, NotMadeFor, NotReadFor, NotToldFor, NotUndoneFor, WroteOver, due_told, told_again, undo_told}
 use Rattle.rq_level.specs.declared.writes.SlotWrite.{SlotWrite}
 use Rattle.rq_planner.specs.PageUndos.{NotPutBackFor, PutsBackWrite}
 use Rattle.rq_restart.specs.Aborting.{blamed_on}
@@ -99,6 +99,15 @@ not_told g old new lsn place log r at _ h = absurd h
 -- one that is not of the operation of its place is not the one that stands there
 pub not_own : (by : Sub) (told stands : Record) → is_of by (op_of told) ≡ false → told ≡ stands → op_of stands ≡ Some by → ⊥
 not_own by told stands other is own = false≢true (sym other ∙ ap (is_of by) (ap op_of is ∙ own) ∙ same_self by)
+
+-- what one of the operation tells is told so
+pub told_own : {A : Type 0} (x : Result A Refusal) (tell : Place → Record → Result A Refusal) (p : Place) (r : Record) (places : List Place) (lsn : ℕ) → In p places → p.lsn ≡ lsn → is_of p.by (op_of r) ≡ true → IfOk x (λ a. tell p r ≡ Ok a) → IfOk x (IsToldByOwn A tell places lsn)
+told_own (Ok a) tell p r places lsn among at own told = record { read = r; is_own = record { place = p; among = among; at = at; own = own }; told = told }
+told_own (Err e) tell p r places lsn among at own told = tt
+
+pub tells_itself : {A E : Type 0} (x : Result A E) → IfOk x (λ a. x ≡ Ok a)
+tells_itself (Ok a) = refl
+tells_itself (Err e) = tt
 
 -- ---- the newest write of all
 
@@ -169,7 +178,7 @@ module _ (f : Analysis) (log : List Record) (are : IsAnalysisOf f log) (lsn : �
         stands = λ q i same. (told q i same, write_at q i same, ap (λ (o : Sub). Some o) (sym (stands q i same).0));
       })
 
--- ---- as its level undoes it
+-- ---- how it is undone
 
 -- what is so of the one is so of the other, which is the same where there is one
 pub ok_of : {A E : Type 0} (x y : Result A E) (P : A → Type 0) → IfOk x (λ r. y ≡ Ok r) → IfOk y P → IfOk x P

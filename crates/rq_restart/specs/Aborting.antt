@@ -73,7 +73,7 @@ pub record AbortsBehind (log now : List Record) : Type 0 where
   pub turns : AreRounds log rounds
   pub are : after_rounds rounds log ≡ now
 
--- the writes take back what is due, as its level plans them over some pages of which this is so
+-- the writes take back what is due, over some pages of which this is so
 pub record IsPlannedOn (z : Sizes) (on : Paged → Type 0) (due : PendingUndo) (ws : List SlotWrite) : Type 0 where
   pub pages : Paged
   pub on_pages : on pages

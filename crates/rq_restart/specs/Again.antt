@@ -1,18 +1,24 @@
 -- Records that are read again, where they are to be undone.
-use Rattle.std.specs.Prelude.{◌≡◌, ◌≢◌, ℕ, ◌+◌, ◌%◌, ◌^◌, ◌<◌, ◌≤◌, ◌&&◌, nat_lt, cond, List, length, Some, Result, Ok, Err}
+use Rattle.std.specs.Prelude.{◌≡◌, ◌≢◌, ◌⊎◌, ◌↔◌, ℕ, ◌+◌, ◌%◌, ◌^◌, ◌<◌, ◌≤◌, ◌&&◌, nat_lt, cond, Bool, true, false, IsTrue, List, length, Some, Result, Ok, Err}
+use Rattle.std.specs.List.{filter}
 use Rattle.rq_model.specs.declared.record.Record.{Record}
 use Rattle.rq_model.specs.declared.record.Record.TheVariants.{PageOp, PageUndo, OpEnd}
 use Rattle.rq_model.specs.declared.refusal.Refusal.{Refusal}
 use Rattle.rq_model.specs.declared.refusal.Refusal.TheVariants as why
 use Rattle.rq_model.specs.declared.refusal.Damage.TheVariants as damage
-use Rattle.rq_model.specs.Vocabulary.{In}
+use Rattle.rq_model.specs.Vocabulary.{In, first}
 use Rattle.rq_disk.specs.declared.device.LogDevice.{Ghosts}
 use Rattle.rq_log.specs.Places.{IsAt}
 use Rattle.rq_record.specs.Spelling.{IsSlotNumber}
 use Rattle.rq_analysis.specs.declared.dues.PendingUndo.{PendingUndo}
-use Rattle.rq_analysis.specs.OpenWorkView.{OpenWorkView}
-use Rattle.rq_analysis.specs.Pages.{IsNextUndo}
+use Rattle.rq_analysis.specs.declared.open_work.NextUndo.{NextUndo}
+use Rattle.rq_analysis.specs.declared.open_work.NextUndo.TheVariants.{Void, Write}
+use Rattle.rq_analysis.specs.OpenWorkView.{OpenWorkView, lsn_undoable, undoable_by}
+use Rattle.rq_analysis.specs.Pages.{IsNextUndo, void_of}
 use Rattle.rq_analysis.specs.Rules.{op_of}
+use Rattle.rq_views.specs.Items.{operation}
+use Rattle.rq_views.specs.Legal.{is_of}
+use Rattle.rq_restart.specs.declared.analysis.Analysis.{Analysis}
 use Rattle.rq_restart.specs.Places.{AreRising}
 use Rattle.rq_restart.specs.declared.places.Place.{Place}
 
@@ -57,6 +63,37 @@ WroteOver _ page slot bytes = ⊥
 abbrev pub told_again : ℕ → Refusal → Refusal
 told_again lsn why.DiskRead = why.DiskRead
 told_again lsn _ = why.Damaged (damage.Record lsn)
+
+-- a record was read at one of these places, the one with this LSN, and it is of the place's operation
+pub record IsOwn (places : List Place) (lsn : ℕ) (told : Record) : Type 0 where
+  pub place : Place
+  pub among : In place places
+  pub at : place.lsn ≡ lsn
+  pub own : is_of place.by (op_of told) ≡ true
+
+-- it tells this
+pub record IsToldByOwn (A : Type 0) (tell : Place → Record → Result A Refusal) (places : List Place) (lsn : ℕ) (a : A) : Type 0 where
+  pub read : Record
+  pub is_own : IsOwn places lsn read
+  pub told : tell is_own.place read ≡ Ok a
+
+-- what undoes the next write is told by such a record; what ends an operation without one, by none
+abbrev pub IsOwnUndo : List Place → NextUndo → Record → Type 0
+IsOwnUndo places (Void sub) r = r ≡ void_of sub
+IsOwnUndo places (Write lsn) r = IsToldByOwn Record undo_told places lsn r
+
+-- whether it tells that the slot was written over these bytes
+pub record IsComparedWithOwn (places : List Place) (lsn page slot : ℕ) (bytes : List ℕ) (over : Bool) : Type 0 where
+  pub read : Record
+  pub is_own : IsOwn places lsn read
+  pub answer : IsTrue over ↔ WroteOver read page slot bytes
+
+-- of a PageUndo, where the write that it undoes is its operation's newest
+abbrev pub ComparesOwn : Analysis → Record → Bool → Type 0
+ComparesOwn f (PageUndo t n undone page slot after) over =
+    ((over ≡ false) × (lsn_undoable (first (filter (undoable_by (operation t n)) f.open_work.undoable)) ≢ Some undone))
+    ⊎ IsComparedWithOwn f.places.writes undone page slot after over
+ComparesOwn f _ over = Unit {0}
 
 module _ {L : Type 0} (g : Ghosts L) where
   -- why the record of a place was not given: the device failed, or gave another than before; or the log has no room

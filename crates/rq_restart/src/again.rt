@@ -14,12 +14,12 @@ ghost use Rattle.rq_analysis.specs.OpenWorkView.{lsn_undoable, undoable_by};
 ghost use Rattle.rq_analysis.specs.Pages.{IsNextUndo, IsUndoneNext, void_of};
 ghost use Rattle.rq_analysis.specs.Rules.{op_of};
 ghost use Rattle.rq_restart.specs.Aborting.{blamed_on};
-ghost use Rattle.rq_restart.specs.Again.{HasRecord, IsLikeUndo, NotGivenFor, NotMadeFor, NotReadFor, NotToldFor, NotUndoneFor, WroteOver, due_told, told_again, undo_told};
+ghost use Rattle.rq_restart.specs.Again.{ComparesOwn, HasRecord, IsLikeUndo, IsOwnUndo, IsToldByOwn, NotGivenFor, NotMadeFor, NotReadFor, NotToldFor, NotUndoneFor, WroteOver, due_told, told_again, undo_told};
 ghost use Rattle.rq_restart.specs.Found.{IsAnalysisOf};
 
 use crate::analysis::Analysis;
-use crate::places::{Place, place_with, sub};
-use rq_analysis::{NextUndo, PendingUndo};
+use crate::places::{Place, place_with};
+use rq_analysis::{NextUndo, PendingUndo, operation_of, sub};
 use rq_disk::LogDevice;
 use rq_level::{Level, SlotWrite};
 use rq_log::{Log, LogReader};
@@ -30,7 +30,7 @@ use rq_model::txn::{Lsn, Sub, Txn};
 use rq_planner::Planner;
 use std::alloc::Global;
 
-/// The record by which is undone what is next, as these are the findings of the log: a write as its level undoes it.
+/// The record by which is undone what is next, as these are the findings of the log.
 ///
 /// # Errors
 /// `NoMemory`; `DiskRead`; `LogFull` where the log is at its greatest length; `Damaged` with the LSN of the record that tells
@@ -47,6 +47,7 @@ pub(crate) fn undo_record<L: LogDevice, B: Level>(
     requires running { log.old.failed ≡ false }
     ensures like { IfOk result (λ r. IsLikeUndo analysis.now.open_work r) }
     ensures is { IfOk result (λ r. L.honest log.new.device → IsNextUndo analysis.now.open_work r) }
+    ensures own { IfOk result (IsOwnUndo analysis.now.places.writes next) }
     ensures err { IfErr result (λ e. NotUndoneFor L.LogDevice e (length log.old.records) log.old.device log.new.device) }
     ensures planner { planner.new ≡ planner.old }
     ensures cause { OnOk result (L.faults log.new.device ≡ L.faults log.old.device) }
@@ -81,6 +82,7 @@ fn undo_write<L: LogDevice, B: Level>(
     requires running { log.old.failed ≡ false }
     ensures like { IfOk result (λ r. IsLikeUndo analysis.now.open_work r) }
     ensures is { IfOk result (λ r. L.honest log.new.device → IsNextUndo analysis.now.open_work r) }
+    ensures own { IfOk result (IsToldByOwn AnyRecord undo_told analysis.now.places.writes lsn) }
     ensures err { IfErr result (λ e. NotUndoneFor L.LogDevice e (length log.old.records) log.old.device log.new.device) }
     ensures planner { planner.new ≡ planner.old }
     ensures cause { OnOk result (L.faults log.new.device ≡ L.faults log.old.device) }
@@ -94,7 +96,7 @@ fn undo_write<L: LogDevice, B: Level>(
     }
 }
 
-// The record by which the write is undone that this record tells, which stands at the place, as its level undoes it.
+// The record by which the write is undone that this record tells, which stands at the place.
 fn undone_as<B: Level>(
     alloc: Global,
     planner: &mut Planner<B>,
@@ -142,6 +144,7 @@ pub(crate) fn due_again<L: LogDevice>(
     ensures like { IfOk result (λ d. (d.txn ≡ txn) × (d.lsn ≡ lsn)) }
     ensures is { IfOk result (λ d. L.honest log.new.device → (e : Due) → In e analysis.now.dues → e.txn ≡ txn → e.lsn ≡ lsn
         → d ≡ e) }
+    ensures own { IfOk result (IsToldByOwn Due due_told analysis.now.places.ends lsn) }
     ensures err { IfErr result (λ e. NotToldFor L.LogDevice e (length log.old.records) log.old.device log.new.device) }
     ensures cause { OnOk result (L.faults log.new.device ≡ L.faults log.old.device) }
     ensures same { log.new ≡ record log.old { device = log.new.device } }
@@ -217,16 +220,9 @@ fn kept_record<L: LogDevice>(
 fn is_of(told: &Record, by: Sub) -> bool
     ensures own { result ≡ is_of by (op_of told.now) }
 {
-    match told {
-        Record::PageOp { txn, operation, .. } => sub(txn, *operation) == by,
-        Record::PageUndo { txn, operation, .. } => sub(txn, *operation) == by,
-        Record::OpEnd { txn, operation, .. } => sub(txn, *operation) == by,
-        Record::OpVoid { txn, operation } => sub(txn, *operation) == by,
-        Record::CompEnd { txn, operation, .. } => sub(txn, *operation) == by,
-        Record::Commit { .. } => false,
-        Record::AbortEnd { .. } => false,
-        Record::Restart { .. } => false,
-        Record::Base { .. } => false,
+    match operation_of(told) {
+        Some(own) => own == by,
+        None => false,
     }
 }
 
@@ -275,6 +271,7 @@ pub(crate) fn puts_back<L: LogDevice>(
     requires found { (older : List AnyRecord) × IsAnalysisOf analysis.now older × (reader.old.records ≡ next.now ∷ older) }
     requires plain { is_base next.now ≡ false }
     ensures told { IfOk result (λ yes. L.honest reader.new.device → (IsTrue yes ↔ PutsBack analysis.now.open_work next.now)) }
+    ensures own { IfOk result (ComparesOwn analysis.now next.now) }
     ensures err { IfErr result (λ e. NotReadFor L.LogDevice e reader.old.device reader.new.device) }
     ensures cause { OnOk result (L.faults reader.new.device ≡ L.faults reader.old.device) }
     ensures same { reader.new ≡ record reader.old { device = reader.new.device } }
@@ -289,13 +286,40 @@ pub(crate) fn puts_back<L: LogDevice>(
             slot,
             after,
         } => match place_of_newest(analysis, sub(txn, *operation), *undone) {
-            Some(kept) => match reader.at(kept.place) {
+            Some(kept) => match own_record(reader, kept, lsn) {
                 Ok(told) => Ok(wrote_over(&told, *page, *slot, after)),
-                Err(refusal) => Err(not_given(lsn, refusal)),
+                Err(refusal) => Err(refusal),
             },
             None => Ok(false),
         },
         _ => Ok(true),
+    }
+}
+
+// The record that stands at this place. One of another operation is damage of the record with this LSN.
+fn own_record<L: LogDevice>(
+    reader: &mut LogReader<L>,
+    kept: Place,
+    lsn: Lsn,
+) -> Result<Record, Refusal>
+    requires stands { (r : AnyRecord) × IsAt reader.old.records kept.place r × (op_of r ≡ Some kept.by) }
+    ensures own { IfOk result (λ told. is_of kept.by (op_of told) ≡ true) }
+    ensures is { IfOk result (λ told. L.honest reader.new.device → (s : AnyRecord) → IsAt reader.old.records kept.place s
+        → told ≡ s) }
+    ensures err { IfErr result (λ e. NotReadFor L.LogDevice e reader.old.device reader.new.device) }
+    ensures cause { OnOk result (L.faults reader.new.device ≡ L.faults reader.old.device) }
+    ensures same { reader.new ≡ record reader.old { device = reader.new.device } }
+    ensures read { IsRead L.LogDevice reader.old.device reader.new.device }
+{
+    match reader.at(kept.place) {
+        Ok(told) => {
+            if is_of(&told, kept.by) {
+                Ok(told)
+            } else {
+                Err(Refusal::Damaged(Damage::Record(lsn)))
+            }
+        }
+        Err(refusal) => Err(not_given(lsn, refusal)),
     }
 }
 

@@ -11,7 +11,8 @@ ghost use Rattle.rq_views.specs.Items.{operation};
 ghost use Rattle.rq_restart.specs.Places.{AreRising, ends_after, no_places, place_at, places_after, without_operation, without_txn, writes_after};
 
 use rq_analysis::{
-    EndedTransactions, LastOperations, OpenWork, PendingUndos, make_room, tells_deed, tells_write,
+    EndedTransactions, LastOperations, OpenWork, PendingUndos, make_room, sub, tells_deed,
+    tells_write,
 };
 use rq_model::record::Record;
 use rq_model::refusal::Refusal;
@@ -198,10 +199,4 @@ fn stands(lsn: Lsn, txn: &Txn, number: u64, place: u64) -> Place
         by: sub(txn, number),
         place,
     }
-}
-
-pub(crate) fn sub(txn: &Txn, number: u64) -> Sub
-    ensures { result ≡ operation txn.now number }
-{
-    Sub { txn: *txn, number }
 }

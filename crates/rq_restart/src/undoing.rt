@@ -18,8 +18,8 @@ use rq_planner::Planner;
 use rq_pool::Pages;
 use std::alloc::Global;
 
-/// Undoes what operations without an end wrote, the newest write of all first, as its level says, and voids each once its
-/// writes are undone. The records of it are made behind the log, of which these are the findings, and nothing is handed over.
+/// Undoes what operations without an end wrote, the newest write of all first, and voids each once its writes are undone. The
+/// records of it are made behind the log, of which these are the findings, and nothing is handed over.
 ///
 /// # Errors
 /// `NoMemory`, where something is to be undone; `DiskRead`; `LogFull` where the log is at its greatest length; `Damaged` with

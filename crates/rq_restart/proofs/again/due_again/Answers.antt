@@ -6,8 +6,8 @@ use Rattle.rq_model.specs.declared.refusal.Damage.TheVariants as damage
 use Rattle.rq_model.specs.Vocabulary.{In}
 use Rattle.rq_analysis.specs.declared.dues.PendingUndo.{PendingUndo}
 use Rattle.rq_analysis.specs.Dues.{end_due}
-use Rattle.rq_restart.specs.Again.{due_told}
-use Rattle.rq_restart.proofs.ReadAgain.{due_has, due_is, due_like, due_named, end_there, err_told, ok_due}
+use Rattle.rq_restart.specs.Again.{IsToldByOwn, due_told}
+use Rattle.rq_restart.proofs.ReadAgain.{due_has, due_is, due_like, due_named, end_there, err_told, ok_due, tells_itself, told_own}
 use Rattle.rq_restart.proofs.again.due_again.Goals as goal
 
 pub kept_record-requires-clause-has : goal.kept_record-requires-clause-has
@@ -50,3 +50,8 @@ returns-in-Ok-clause-err g c =
     err_told g.L.LogDevice c.args.log.now.device c.kept_record.new.log.device (length log) kept.lsn c.due_as.result d.0 (subst (λ x. IfErr x (λ e. e ≡ why.Damaged (damage.Record kept.lsn))) (sym c.due_as.ensures) (due_named kept c.in-Ok.kept.1))
     (λ h. c.due_as.ensures ∙ ap (due_told kept) (c.in-Ok.ensures.is h (end_due d.0) (end_there f log are c.args.txn c.args.lsn d.0 d.1 d.2 d.3 kept among same).1) ∙ due_is f log are c.args.txn c.args.lsn d.0 d.1 d.2 d.3 kept among same)
     c.in-Ok.ensures.cause
+
+pub returns-in-Ok-clause-own : goal.returns-in-Ok-clause-own
+returns-in-Ok-clause-own g c =
+    subst (λ x. IfOk x (IsToldByOwn PendingUndo due_told c.args.analysis.now.places.ends c.args.lsn)) (sym c.due_as.ensures)
+    (told_own (due_told c.in-Ok.kept.0 c.in-Ok.kept.1) due_told c.in-Ok.kept.0 c.in-Ok.kept.1 c.args.analysis.now.places.ends c.args.lsn (subst (In c.in-Ok.kept.0) c.ends.ensures c.in-Ok.ensures.place.0) c.in-Ok.ensures.place.1 c.in-Ok.ensures.own (tells_itself (due_told c.in-Ok.kept.0 c.in-Ok.kept.1)))

@@ -13,3 +13,9 @@ returns-in-Void-clause-is g c = λ k.
     let h = c.args.analysis.now.open_work in
     let next : IsNextUndo h (void_of c.in-Void.sub) = subst (IsUndoneNext h) c.in-Void.is c.requires.next in
     subst (IsNextUndo h) (sym c.void_record.ensures) next
+
+pub returns-in-Void-clause-own : goal.returns-in-Void-clause-own
+returns-in-Void-clause-own g c = rw c.in-Void.is c.void_record.ensures
+
+pub returns-in-Write-clause-own : goal.returns-in-Write-clause-own
+returns-in-Write-clause-own g c = rw c.in-Write.is c.undo_write.ensures.own

@@ -2,7 +2,7 @@ use Rattle.std.proofs.Common.{length, ap, subst, ◌∙◌}
 use Rattle.rq_model.specs.Vocabulary.{In}
 use Rattle.rq_analysis.specs.Pages.{IsNextUndo, undo_of}
 use Rattle.rq_restart.specs.Again.{IsLikeUndo, undo_told}
-use Rattle.rq_restart.proofs.ReadAgain.{err_of, err_told, ok_of, ok_under, not_undone, told, write_at, write_has, write_like, write_named, write_next, write_told}
+use Rattle.rq_restart.proofs.ReadAgain.{err_of, err_told, ok_of, ok_under, not_undone, told, told_own, write_at, write_has, write_like, write_named, write_next, write_told}
 use Rattle.rq_restart.proofs.again.undo_write.Goals as goal
 
 pub kept_record-requires-clause-has : goal.kept_record-requires-clause-has
@@ -48,3 +48,6 @@ returns-in-Ok-clause-err g c =
 
 pub returns-in-Err-clause-err : goal.returns-in-Err-clause-err
 returns-in-Err-clause-err g c = not_undone g.L.LogDevice c.args.log.now.device c.kept_record.new.log.device (length c.args.log.now.records) c.in-Err.refusal c.in-Err.ensures.err
+
+pub returns-in-Ok-clause-own : goal.returns-in-Ok-clause-own
+returns-in-Ok-clause-own g c = told_own c.undone_as.result undo_told c.in-Ok.kept.0 c.in-Ok.kept.1 c.args.analysis.now.places.writes c.args.lsn (subst (In c.in-Ok.kept.0) c.writes.ensures c.in-Ok.ensures.place.0) c.in-Ok.ensures.place.1 c.in-Ok.ensures.own c.undone_as.ensures.told

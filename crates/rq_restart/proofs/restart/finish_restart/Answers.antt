@@ -1,10 +1,10 @@
-use Rattle.std.proofs.Common.{rules, ◌≡◌, ◌+◌, ◌∷◌, ℕ, length, ap, sym, ◌∙◌, subst, arith}
+use Rattle.std.proofs.Common.{◌≡◌, ◌+◌, ◌∷◌, ℕ, length, ap, sym, ◌∙◌, subst, arith}
 use Rattle.rq_model.specs.declared.record.Record.TheVariants as records
 use Rattle.rq_analysis.specs.OpenWorkView.{OpenWorkView}
-use Rattle.rq_restart.specs.Numbers.{AreNumbersOf, NamesFirst}
+use Rattle.rq_restart.specs.Numbers.{NamesFirst}
 use Rattle.rq_restart.specs.Checked.{WasReadAndRedone}
 use Rattle.rq_restart.specs.Refused.{WhyShut}
-use Rattle.rq_restart.specs.Repeating.{ArePagesCounted, Paged, Repeats, paged}
+use Rattle.rq_restart.specs.Repeating.{ArePagesCounted, paged}
 use Rattle.rq_restart.specs.Restarting.{AreTold, Reports}
 use Rattle.rq_restart.proofs.Begun.{begins, last_is, not_begun, reports}
 use Rattle.rq_restart.proofs.Repeated.{few_read, repeated_read}
