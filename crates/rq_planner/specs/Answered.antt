@@ -122,7 +122,8 @@ SendTakesLowest z q rows (Chain (Receive g)) ws = Unit {0}
 SendTakesLowest z q rows (Chain (Close g)) ws = Unit {0}
 SendTakesLowest z q rows (Tag t) ws = Unit {0}
 
--- the deed that its plan tells
+-- The deed that its plan tells, if it tells one. Bytes that tell none count as `Close 0`: a plan of a level tells one (`told` of
+-- `IsLawfulPlan`).
 abbrev pub deed_of : Task → Plan → Deed
 deed_of task p = told_deed (deed_by (task_level task) p.deed)
 

@@ -85,8 +85,8 @@ pub record IsJudgedBack (z : Sizes) (q : Slots) (d : Deed) (answer : Result Plan
   pub can : IfOk answer (λ p. CanBeTakenBack z q d)
   pub damaged : IfErr answer (λ r. TellsDamage r → CanBeTakenBack z q d → ⊥)
 
--- The writes take back the deed that is told, as its level plans them over the slots as they are: it was done last at its
--- end of its group there, and a message is put back into the lowest free cell.
+-- The writes take back the deed that is told, over the slots as they are: it was done last at its end of its group there,
+-- and a message is put back into the lowest free cell.
 pub record IsTakingBack (z : Sizes) (q : Slots) (told : Option Deed) (ws : List SlotWrite) : Type 0 where
   pub deed : Deed
   pub reads : told ≡ Some deed

@@ -10,14 +10,14 @@ use Rattle.rq_level.specs.Gists.{gist_of}
 use Rattle.rq_level.specs.Writes.{AreSlotWrites}
 use Rattle.rq_txn.specs.Told.{IsTold}
 
--- It writes slots of the store, three at most. It tells a deed of its level, which its end replies.
+-- It writes slots of the store, three at most. It tells a deed of its level, with what is counted of that.
 pub record IsLawfulPlan (z : Sizes) (level : ℕ) (p : Plan) : Type 0 where
   pub slots : AreSlotWrites z p.writes.items
   pub count : length p.writes.items ≤ 3
   pub told : IsTold level p.deed
   pub reply : p.reply ≡ replies.Deed (gist_of (told_deed (deed_by level p.deed)))
 
--- what takes a deed back tells none, and its end replies that it is undone
+-- what takes a deed back tells none, and nothing is counted of it
 pub record IsLawfulInverse (z : Sizes) (p : Plan) : Type 0 where
   pub slots : AreSlotWrites z p.writes.items
   pub count : length p.writes.items ≤ 3
