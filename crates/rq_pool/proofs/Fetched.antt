@@ -1,11 +1,16 @@
 -- Pages that all stand in frames, and pages that were read again one after the other.
-use Rattle.std.proofs.Common.{◌≡◌, ℕ, zero, suc, ◌+◌, ◌<◌, List, length, refl, sym, ap, subst, arith, ◌∙◌, inl, Ok}
+use Rattle.std.proofs.Common.{◌≡◌, ℕ, zero, suc, ◌+◌, ◌<◌, ◌≤◌, List, length, refl, sym, ap, subst, arith, ◌∙◌, inl, Ok, Err}
+use Rattle.std.proofs.lemmas.Bool.{false≢true}
+use Rattle.rq_model.specs.declared.refusal.Damage.TheVariants as damage
+use Rattle.rq_model.specs.declared.refusal.Refusal.{Refusal}
+use Rattle.rq_model.specs.declared.refusal.Refusal.TheVariants as why
+use Rattle.rq_page.specs.Sizes.{page_count}
 use Rattle.rq_disk.specs.declared.device.PageDevice.{Ghosts}
 use Rattle.rq_pool.specs.Pooled.{Pooled}
 use Rattle.rq_pool.specs.Held.{Held, IsFramed, page_at}
 use Rattle.rq_pool.specs.Frames.{in_order}
 use Rattle.rq_pool.specs.Reading.{OnlyRead}
-use Rattle.rq_pool.specs.Fetching.{AreAllFramed, Fetches, MayHaveRead}
+use Rattle.rq_pool.specs.Fetching.{AreAllFramed, Fetches, HasReadFor, IsAtHand, MayHaveRead, NotFetched, ReadFails}
 use Rattle.rq_pool.proofs.KeptUp.{kept_still, kept_then}
 use Rattle.rq_pool.proofs.Readings.{only_read_on}
 
@@ -71,3 +76,20 @@ module _ {P : Type 0} (g : Ghosts P) where
     read = f.read;
     others = f.others;
   })
+
+  -- A page that was not read stood in no frame.
+  fails_to_read : (n : ℕ) (old new : Pooled P) (e : Refusal) → (IsAtHand old n → ⊥) → 1 ≤ n → n < page_count old.sizes → NotFetched g n e old.device new.device → ReadFails g e old new
+  fails_to_read n old new why.DiskRead away low high failed = (record { page = n; behind = low; within = high; outside = λ framed. away (inl framed) }, failed)
+  fails_to_read n old new (why.Damaged (damage.Page m)) away low high lied = lied.2
+  fails_to_read n old new _ away low high not = absurd not
+
+  -- a page was read, or was not, on the way of a call
+  pub fetched_reads : {X Y : Type 0} (n : ℕ) (old new : Pooled P) (x : X) (y : Y) → Fetches g n old (Ok x) new → HasReadFor g old (Ok y) new
+  fetched_reads n old new x y f = record { read = f.read; counted = f.counted; refused = tt }
+
+  pub unfetched_reads : {X Y : Type 0} (n : ℕ) (old new : Pooled P) (e : Refusal) → 1 ≤ n → n < page_count old.sizes → Fetches {X = X} g n old (Err e) new → HasReadFor {X = Y} g old (Err e) new
+  unfetched_reads n old new e low high f = record { read = f.read; counted = tt; refused = fails_to_read n old new e (λ at. false≢true (f.stood at).0) low high f.refused }
+
+  -- nothing was
+  pub reads_none : {X : Type 0} (old new : Pooled P) (x : X) → new ≡ old → HasReadFor g old (Ok x) new
+  reads_none old new x same = subst (λ (s : Pooled P). HasReadFor g old (Ok x) s) (sym same) (record { read = still_read old; counted = refl; refused = tt })

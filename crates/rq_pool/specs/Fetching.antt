@@ -1,5 +1,5 @@
 -- What reading a page of a store again may do.
-use Rattle.std.specs.Prelude.{◌≡◌, ◌≢◌, ◌⊎◌, ℕ, ◌+◌, ◌%◌, ◌^◌, ◌<◌, ◌≤◌, Some, Result, IsOk, IfErr, OnOk}
+use Rattle.std.specs.Prelude.{◌≡◌, ◌≢◌, ◌⊎◌, ℕ, ◌+◌, ◌%◌, ◌^◌, ◌<◌, ◌≤◌, Some, Result, Err, IsOk, IfErr, OnOk}
 use Rattle.rq_model.specs.declared.refusal.Refusal.{Refusal}
 use Rattle.rq_model.specs.declared.refusal.Refusal.TheVariants as why
 use Rattle.rq_model.specs.declared.refusal.Damage.TheVariants as damage
@@ -65,3 +65,19 @@ pub record Fetches {P X : Type 0} (g : Ghosts P) (page : ℕ) (old : Pooled P) (
   pub read : MayHaveRead g old new
   -- whatever the device is, each other page has its image
   pub others : (p : ℕ) → p ≢ page → image_at new.images p ≡ image_at old.images p
+
+-- How often the device has failed where a call was refused that reads pages on its way: once more, in a read of a page that stood
+-- in no frame, where it is told that a page was not read; else as often as before.
+abbrev pub ReadFails : {P : Type 0} → Ghosts P → Refusal → Pooled P → Pooled P → Type 0
+ReadFails g why.DiskRead old new = (out : HasOutside old) × HasFailed g (Reads out.page) old.device new.device
+ReadFails g _ old new = g.faults new.device ≡ g.faults old.device
+
+-- what such a call answers, and leaves
+pub record HasReadFor {P X : Type 0} (g : Ghosts P) (old : Pooled P) (result : Result X Refusal) (new : Pooled P) : Type 0 where
+  pub read : MayHaveRead g old new
+  pub counted : OnOk result (g.faults new.device ≡ g.faults old.device)
+  pub refused : IfErr result (λ e. ReadFails g e old new)
+
+-- Each page that it read was the store's, and was read: the device is honest, or none had to be read, and no read failed.
+abbrev pub ReadsTruly : {P X : Type 0} → Ghosts P → Pooled P → Result X Refusal → Pooled P → Type 0
+ReadsTruly g old result new = (AreAllFramed old ⊎ g.honest new.device) × (result ≡ Err why.DiskRead → ⊥)

@@ -1,7 +1,7 @@
 //! The pages of the store, all of them in memory, over their device.
 #![tactic(auto)]
 
-ghost use Rattle.std.specs.Prelude.{◌≡◌, ◌≢◌, ◌↔◌, ◌<◌, ◌≤◌, ◌+◌, ◌/◌, ◌%◌, ℕ, true, false, Err, IsSome, IsTrue, IfSome, IfNone, IfErr, IfOk, OnOk, length, replicate, slice_set};
+ghost use Rattle.std.specs.Prelude.{◌≡◌, ◌≢◌, ◌↔◌, ◌<◌, ◌≤◌, ◌+◌, ◌/◌, ◌%◌, ℕ, true, false, Err, IsOk, IsSome, IsTrue, IfSome, IfNone, IfErr, IfOk, OnOk, length, replicate, slice_set};
 ghost use Rattle.std.specs.Bool.{OnFalse};
 ghost use Rattle.rq_page.specs.Sizes.{IsCellAddress, page_count, sender_count, client_count, client_slot_at, directory_at, place_of};
 ghost use Rattle.rq_page.specs.Pages.{IsWritten, lsn_of};
@@ -153,7 +153,7 @@ impl<P: PageDevice + Drop> Pages<P> {
 impl<P: PageDevice> Pages<P> {
     ghost use Rattle.rq_pool.specs.Writing.{AnswersWhen, DeviceAfter, HasChangeBeyond, IsRedoAt, IsUnwritten, MayHaveSynced, NoChangeBeyond, changed_after};
     ghost use Rattle.rq_pool.specs.Pooled.{AreOver};
-    ghost use Rattle.rq_pool.specs.Fetching.{AreAllFramed, Fetches};
+    ghost use Rattle.rq_pool.specs.Fetching.{AreAllFramed, Fetches, HasReadFor, IsAtHand, ReadsTruly};
 
     /// What is so of the pages of each store, for proofs: it runs no code. Where the device has been honest, each page
     /// that doesn't count as changed reads there as its image.
@@ -324,6 +324,36 @@ impl<P: PageDevice> Pages<P> {
     {
         self.shows_framed();
         Ok(())
+    }
+
+    /// Has the page of a slot be at hand, as `look` does. Whether the store has such a slot; nothing happens where it has none.
+    ///
+    /// # Errors
+    /// As of `look`.
+    pub fn look_at(&mut self, at: Addr) -> Result<bool, Refusal>
+        ensures known { IfOk result (λ stands. IsTrue stands ↔ IsStoreSlot self.old.sizes at) }
+        ensures hand { IfOk result (λ stands. IsTrue stands → IsAtHand self.new (at / 16)) }
+        ensures read { HasReadFor P.PageDevice self.old result self.new }
+        ensures done { ReadsTruly P.PageDevice self.old result self.new → IsOk result }
+    {
+        let page = at.page();
+        if page == 0 || page >= self.layout().pages() as u64 || at.slot() == 0 {
+            return Ok(false);
+        }
+        match self.look(page as u32) {
+            Ok(()) => Ok(true),
+            Err(refusal) => Err(refusal),
+        }
+    }
+
+    /// What stands at an address whose page is at hand.
+    pub fn slot_at_hand(&self, at: Addr) -> &Slot
+        requires place { IsStoreSlot self.now.sizes at }
+        requires hand { IsAtHand self.now (at / 16) }
+        ensures bytes { result.now ≡ slot_at self.now.images at }
+        ensures slot { IsSlotOf self.now.sizes (at / 16) (at % 16) result.now }
+    {
+        self.slot_bytes(at)
     }
 
     /// Makes what was written to the device durable.
