@@ -48,7 +48,7 @@ wrong_levels = record {
       let over = lawful.holds slots c.kept c.asked c.given c.latched q left right.plans knows right.asked.of as_given in
       let each = each_in (λ (v : SlotWrite). v.before ≡ slots v.at) q.writes.items (recursion_from_All (λ (v : SlotWrite). v.before ≡ slots v.at) q.writes.items over) w there in
       false≢true (sym used ∙ (ap is_free_slot (sym each ∙ before) ∙ free_first));
-  nothing_is_undone = λ c q p left g rest right but given none lawful.
+  nothing_is_undone = λ n c q p left g rest right but given none lawful.
       let written = lawful.asked_is_written_undo c.kept c.asked c.given c.latched p left (inr (refl, refl, refl, refl, refl, refl)) right.asked.gathered in
       let each = recursion_from_All (λ (h : Given). In h.at (map (λ (w : SlotWrite). w.at) p.writes.items)) c.given written in
       subst (λ (ws : List SlotWrite). In g.at (map (λ (w : SlotWrite). w.at) ws)) none (each_in (λ (h : Given). In h.at (map (λ (w : SlotWrite). w.at) p.writes.items)) c.given each g (subst (In g) (sym given) (inl refl)));

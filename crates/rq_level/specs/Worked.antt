@@ -98,7 +98,8 @@ pub record PutsBackElsewhere (z : Sizes) (c : Question Job) (q : Plan) (left : L
   pub first_is : applied (newest_first z p) (applied (newest_first z q) held) directory.head ≡ Used first
   pub another : ◌≢◌ {A = ℕ × List ℕ} (first.tag, first.body) (tag, body)
 
--- Each wrong plan p is a right one, q, but for what is named.
+-- Each wrong plan p is a right one, q, but for what is named. One that puts a message back elsewhere is told by what the slots hold
+-- then.
 pub record WrongLevels : Type 0 where
   -- the level of tags tells a close, which is a deed of the level of chains
   pub deed_of_another : (c : Question Job) (q : Plan) (left : LevelState) (sender : ℕ) → IsRight 2 c q left
@@ -112,11 +113,11 @@ pub record WrongLevels : Type 0 where
       → IsRight 1 c q left → In w q.writes.items → w.before ≡ free_bytes → is_free_slot (slots w.at) ≡ false
       → Knows (record (meaning_of 1) { note = tag_note }) c.kept slots → AreAsGiven slots c.given
       → IsLawful 1 (record (meaning_of 1) { note = tag_note }) → ⊥
-  -- it takes an operation back by no writes at all
-  pub nothing_is_undone : (c : Question Record) (q p : Plan) (left : LevelState) (g : Given) (rest : List Given)
-      → IsRightBack 1 c q left → IsButForWrites p q → c.given ≡ g ∷ rest → p.writes.items ≡ []
-      → IsLawful 1 (also_undoes c p left (meaning_of 1)) → ⊥
-  -- it takes a receive back by putting the message at the group's tail
+  -- a level of any number takes an operation back by no writes at all
+  pub nothing_is_undone : (n : ℕ) (c : Question Record) (q p : Plan) (left : LevelState) (g : Given) (rest : List Given)
+      → IsRightBack n c q left → IsButForWrites p q → c.given ≡ g ∷ rest → p.writes.items ≡ []
+      → IsLawful n (also_undoes c p left (meaning_of n)) → ⊥
+  -- the level of chains takes a receive back by putting the message at the group's tail
   pub put_back_at_the_tail : (z : Sizes) (c : Question Job) (q : Plan) (left : LevelState) (b : Question Record) (p : Plan)
       (after : LevelState) → PutsBackElsewhere z c q left b p → IsLawful 1 (also_undoes b p after (meaning_of 1)) → ⊥
   -- the level of slots puts back what stood before a write over what that write did not leave

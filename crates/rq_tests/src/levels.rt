@@ -56,8 +56,9 @@ const ABORTED: u64 = 2005;
 
 const OTHER: u64 = u64::MAX;
 
-// A send and a mark are committed. One mark is taken back by an abort, one is lost with its transaction, and one has no end.
-const BEFORE: [Row; 28] = [
+// A send and a mark are committed. One mark and one send are taken back by aborts, one mark is lost with its transaction, and one
+// has no end.
+const BEFORE: [Row; 43] = [
     (Act::Begin, 1),
     (Act::Send(1), 1),
     (Act::Step(1, 1), 2),
@@ -79,13 +80,28 @@ const BEFORE: [Row; 28] = [
     (Act::Undo(2), NOTHING_LEFT),
     (Act::EndAbort(2), ABORTED),
     (Act::Begin, 3),
-    (Act::Mark(3, 0, 72), 1),
+    (Act::Send(3), 1),
     (Act::Step(3, 1), 13),
-    (Act::Finish(3, 1), MARKED),
+    (Act::Step(3, 1), 14),
+    (Act::Step(3, 1), 15),
+    (Act::Step(3, 1), 0),
+    (Act::Finish(3, 1), SENT),
+    (Act::StartAbort(3), ABORTING),
+    (Act::Undo(3), 2),
+    (Act::Step(3, 2), 17),
+    (Act::Step(3, 2), 18),
+    (Act::Step(3, 2), 19),
+    (Act::Finish(3, 2), UNDONE),
+    (Act::Undo(3), NOTHING_LEFT),
+    (Act::EndAbort(3), ABORTED),
     (Act::Begin, 4),
-    (Act::Mark(4, 1, 73), 1),
-    (Act::Step(4, 1), 15),
-    (Act::Force, 15),
+    (Act::Mark(4, 0, 72), 1),
+    (Act::Step(4, 1), 22),
+    (Act::Finish(4, 1), MARKED),
+    (Act::Begin, 5),
+    (Act::Mark(5, 1, 73), 1),
+    (Act::Step(5, 1), 24),
+    (Act::Force, 24),
 ];
 
 // What is left of them: what was committed.
@@ -345,19 +361,19 @@ fn each_level_is_asked_what_is_its_own(rt: HostRuntime) -> Result<(), Fail> {
     let first = all_asks(rt.alloc()).map_err(|_| "memory")?;
     let left = run(rt.alloc(), pages, log, &first, &BEFORE)?;
     assert!(rt; left.is_answered);
-    // One send; four marks, of which one is taken back and three have ends. Seven writes are told behind the opening, and the cell
-    // that the send's plan gave back.
+    // Two sends, of which one is taken back; four marks, of which one is taken back and three have ends. Thirteen writes are told
+    // behind the opening, and the cell that each send's plan gave back.
     assert!(rt; first.slots.counts() == counts(0, 0, 0, 1, 0));
-    assert!(rt; first.chains.counts() == counts(1, 0, 0, 54, 1));
-    assert!(rt; first.tags.counts() == counts(4, 1, 0, 54, 3));
-    assert!(rt; first.bystander.counts() == counts(0, 0, 0, 54, 0));
+    assert!(rt; first.chains.counts() == counts(2, 1, 0, 61, 2));
+    assert!(rt; first.tags.counts() == counts(4, 1, 0, 61, 3));
+    assert!(rt; first.bystander.counts() == counts(0, 0, 0, 61, 0));
     let Left { pages, log, .. } = left;
     let second = all_asks(rt.alloc()).map_err(|_| "memory")?;
     let crashed = (pages.crash(PageChoice::Synced), log.crash(0, 0));
     let left = run(rt.alloc(), crashed.0, crashed.1, &second, &BEHIND)?;
     assert!(rt; left.is_answered);
-    // Seven writes are made again, one is undone, and one takes back the lost mark, behind what the opening tells.
-    assert!(rt; second.slots.counts() == counts(0, 1, 9, 1, 0));
+    // Thirteen writes are made again, one is undone, and one takes back the lost mark, behind what the opening tells.
+    assert!(rt; second.slots.counts() == counts(0, 1, 15, 1, 0));
     assert!(rt; second.chains.counts() == counts(0, 0, 0, 47, 0));
     assert!(rt; second.tags.counts() == counts(0, 1, 0, 47, 0));
     assert!(rt; second.bystander.counts() == counts(0, 0, 0, 47, 0));
