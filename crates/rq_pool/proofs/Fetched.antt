@@ -1,35 +1,74 @@
 -- Pages that all stand in frames, and pages that were read again one after the other.
-use Rattle.std.proofs.Common.{◌≡◌, ℕ, zero, suc, ◌+◌, ◌<◌, ◌≤◌, List, length, refl, sym, ap, subst, arith, ◌∙◌, inl, Ok, Err}
-use Rattle.std.proofs.lemmas.Bool.{false≢true}
+use Rattle.std.proofs.Common.{Bool, false, [], ◌∷◌, ◌++◌, slice_index_or, slice_set, ◌≡◌, ℕ, zero, suc, ◌+◌, ◌<◌, ◌≤◌, List, length, refl, sym, ap, subst, arith, ◌∙◌, inl, Ok, Err}
+use Rattle.std.proofs.lemmas.Bool.{false≢true, true≢false}
 use Rattle.rq_model.specs.declared.refusal.Damage.TheVariants as damage
 use Rattle.rq_model.specs.declared.refusal.Refusal.{Refusal}
 use Rattle.rq_model.specs.declared.refusal.Refusal.TheVariants as why
 use Rattle.rq_page.specs.Sizes.{page_count}
 use Rattle.rq_disk.specs.declared.device.PageDevice.{Ghosts}
 use Rattle.rq_pool.specs.Pooled.{Pooled}
-use Rattle.rq_pool.specs.Held.{Held, IsFramed, page_at}
-use Rattle.rq_pool.specs.Frames.{in_order}
+use Rattle.rq_pool.specs.Held.{Held, IsFixed, IsFramed, IsSetAt, fixed_at, page_at}
+use Rattle.rq_pool.specs.Frames.{IsFirstFixed, in_order}
 use Rattle.rq_pool.specs.Reading.{OnlyRead}
 use Rattle.rq_pool.specs.Fetching.{AreAllFramed, Fetches, HasReadFor, IsAtHand, MayHaveRead, NotFetched, ReadFails}
 use Rattle.rq_pool.proofs.KeptUp.{kept_still, kept_then}
 use Rattle.rq_pool.proofs.Readings.{only_read_on}
 
-length_in_order : (p n : ℕ) → length (in_order p n) ≡ n
-length_in_order p zero = refl
-length_in_order p (suc n) = ap suc (length_in_order (suc p) n)
+length_in_order : (p : ℕ) (fixed : List Bool) → length (in_order p fixed) ≡ length fixed
+length_in_order p [] = refl
+length_in_order p (f ∷ fixed) = ap suc (length_in_order (suc p) fixed)
 
-page_in_order : (p n i : ℕ) → i < n → page_at (in_order p n) i ≡ p + i
-page_in_order p zero i lt = absurd (omega (arith, lt))
-page_in_order p (suc n) zero lt = omega arith
-page_in_order p (suc n) (suc i) lt = page_in_order (suc p) n i (omega (arith, lt)) ∙ omega arith
+page_in_order : (p : ℕ) (fixed : List Bool) (i : ℕ) → i < length fixed → page_at (in_order p fixed) i ≡ p + i
+page_in_order p [] i lt = absurd (omega (arith, lt))
+page_in_order p (f ∷ fixed) zero lt = omega arith
+page_in_order p (f ∷ fixed) (suc i) lt = page_in_order (suc p) fixed i (omega (arith, lt)) ∙ omega arith
+
+fixed_in_order : (p : ℕ) (fixed : List Bool) (i : ℕ) → fixed_at (in_order p fixed) i ≡ slice_index_or fixed i false
+fixed_in_order p [] i = refl
+fixed_in_order p (f ∷ fixed) zero = refl
+fixed_in_order p (f ∷ fixed) (suc i) = fixed_in_order (suc p) fixed i
 
 -- each page stands in the frame of its number
-pub stands : (frames : List Held) (n p : ℕ) → frames ≡ in_order 0 n → p < n → IsFramed frames p
-stands frames n p is lt = subst (λ (f : List Held). IsFramed f p) (sym is) (record {
+pub stands : (frames : List Held) (fixed : List Bool) (p : ℕ) → frames ≡ in_order 0 fixed → p < length fixed → IsFramed frames p
+stands frames fixed p is lt = subst (λ (f : List Held). IsFramed f p) (sym is) (record {
   at = p;
-  within = (let long = length_in_order 0 n in omega (arith, long, lt));
-  is = page_in_order 0 n p lt ∙ omega arith;
+  within = (let long = length_in_order 0 fixed in omega (arith, long, lt));
+  is = page_in_order 0 fixed p lt ∙ omega arith;
 })
+
+-- and in no other
+pub stands_once : (fixed : List Bool) (i p : ℕ) → i < length (in_order 0 fixed) → page_at (in_order 0 fixed) i ≡ p → i ≡ p
+stands_once fixed i p lt is = let long = length_in_order 0 fixed in let at = page_in_order 0 fixed i (omega (arith, long, lt)) in omega (arith, at, is)
+
+-- it is fixed there, or let go
+pub set_in_order : (p : ℕ) (fixed : List Bool) (i : ℕ) (b : Bool) → in_order p (slice_set fixed i b) ≡ slice_set (in_order p fixed) i (record { page = p + i; fixed = b })
+set_in_order p [] i b = refl
+set_in_order p (f ∷ fixed) zero b = ap (λ (n : ℕ). record { page = n; fixed = b } ∷ in_order (suc p) fixed) (omega arith)
+set_in_order p (f ∷ fixed) (suc i) b = ap (λ (hs : List Held). record { page = p; fixed = f } ∷ hs)
+    (set_in_order (suc p) fixed i b ∙ ap (λ (n : ℕ). slice_set (in_order (suc p) fixed) i (record { page = n; fixed = b })) (omega arith))
+
+pub held_at : (fixed : List Bool) (p : ℕ) (b : Bool) → p < length fixed → IsSetAt b (in_order 0 fixed) p (in_order 0 (slice_set fixed p b))
+held_at fixed p b lt = record {
+  at = p;
+  within = (let long = length_in_order 0 fixed in omega (arith, long, lt));
+  is = page_in_order 0 fixed p lt ∙ omega arith;
+  only = λ i within is. stands_once fixed i p within is;
+  now = set_in_order 0 fixed p b ∙ ap (λ (n : ℕ). slice_set (in_order 0 fixed) p (record { page = n; fixed = b })) (omega arith);
+}
+
+-- no page behind the superblock is fixed as they are read
+pub first_more : (fixed : List Bool) → IsFirstFixed fixed → IsFirstFixed (fixed ++ false ∷ [])
+first_more fixed first i behind = more fixed i ∙ first i behind where
+  more : (xs : List Bool) (k : ℕ) → slice_index_or (xs ++ false ∷ []) k false ≡ slice_index_or xs k false
+  more [] zero = refl
+  more [] (suc k) = refl
+  more (x ∷ xs) zero = refl
+  more (x ∷ xs) (suc k) = more xs k
+
+pub first_loose : (fixed : List Bool) → IsFirstFixed fixed → (q : ℕ) → 1 ≤ q → IsFixed (in_order 0 fixed) q → ⊥
+first_loose fixed first q behind f =
+    let at = stands_once fixed f.at q f.within f.is in
+    true≢false (sym f.fixed ∙ fixed_in_order 0 fixed f.at ∙ first f.at (λ none. (let zero_at = none in absurd (omega (arith, at, behind, zero_at)))))
 
 module _ {P : Type 0} (g : Ghosts P) where
   -- a device that was not called was only read

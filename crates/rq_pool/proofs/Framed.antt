@@ -9,7 +9,7 @@ use Rattle.rq_level.specs.Meaning.{AppliesOnce, Redo}
 use Rattle.rq_pool.specs.declared.Frame.{Frame}
 use Rattle.rq_pool.specs.Writing.{IsUnwritten}
 use Rattle.rq_pool.specs.Held.{Held}
-use Rattle.rq_pool.specs.Frames.{image_of, images_of, framed_at, was_changed, changed_of}
+use Rattle.rq_pool.specs.Frames.{image_of, images_of, framed_at, was_changed, changed_of, is_fixed, fixed_of}
 
 -- the page in a frame
 pub framed_read : (fs : List Frame) (i : ℕ) (d : Frame) → i < length fs → framed_at fs i ≡ image_of (slice_index_or fs i d)
@@ -63,6 +63,13 @@ changed_set fs i j f b at is =
 -- a frame with the same page
 pub images_kept : (fs : List Frame) (j : ℕ) (f g : Frame) → f ≡ slice_index_or fs j f → image_of g ≡ image_of f → images_of (slice_set fs j g) ≡ images_of fs
 images_kept fs j f g read same = map-set_same image_of fs j g f (same ∙ ap image_of read)
+
+-- a frame that counts as changed as before, and one that is fixed as before
+pub changed_kept : (fs : List Frame) (j : ℕ) (f g : Frame) → f ≡ slice_index_or fs j f → g.changed ≡ f.changed → changed_of (slice_set fs j g) ≡ changed_of fs
+changed_kept fs j f g read same = map-set_same was_changed fs j g f (same ∙ ap was_changed read)
+
+pub fixed_kept : (fs : List Frame) (j : ℕ) (f g : Frame) → f ≡ slice_index_or fs j f → g.fixed ≡ f.fixed → fixed_of (slice_set fs j g) ≡ fixed_of fs
+fixed_kept fs j f g read same = map-set_same is_fixed fs j g f (same ∙ ap is_fixed read)
 
 -- the page in a frame that was got
 pub framed_got : (fs : List Frame) (i : ℕ) (f : Frame) → (i < length fs) × ((d : Frame) → f ≡ slice_index_or fs i d) → framed_at fs i ≡ image_of f

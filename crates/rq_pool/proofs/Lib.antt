@@ -8,3 +8,4 @@ pub mod Over
 pub mod Growths
 pub mod KeptUp
 pub mod Fetched
+pub mod Holding

@@ -1,5 +1,5 @@
 -- Pages in frames: their images, which of them were changed, and where they stand.
-use Rattle.std.specs.Prelude.{ℕ, zero, suc, Bool, false, List, [], ◌∷◌, map}
+use Rattle.std.specs.Prelude.{◌≡◌, ℕ, suc, ◌≢◌, Bool, false, List, [], ◌∷◌, map, slice_index_or}
 use Rattle.rq_pool.specs.declared.Frame.{Frame}
 use Rattle.rq_pool.specs.Pooled.{image_at}
 use Rattle.rq_pool.specs.Held.{Held}
@@ -20,7 +20,17 @@ was_changed frame = frame.changed
 abbrev pub changed_of : List Frame → List Bool
 changed_of frames = map was_changed frames
 
--- so many frames, the first of them with page p, each other with the page behind the one before; nobody has fixed any
-abbrev pub in_order : ℕ → ℕ → List Held
-in_order p zero = []
-in_order p (suc n) = record { page = p; fixed = false } ∷ in_order (suc p) n
+abbrev pub is_fixed : Frame → Bool
+is_fixed frame = frame.fixed
+
+abbrev pub fixed_of : List Frame → List Bool
+fixed_of frames = map is_fixed frames
+
+-- Frames that are fixed so, the first of them with page p, each other with the page behind the one before.
+abbrev pub in_order : ℕ → List Bool → List Held
+in_order p [] = []
+in_order p (fixed ∷ more) = record { page = p; fixed = fixed } ∷ in_order (suc p) more
+
+-- no page but the superblock is fixed in a frame
+abbrev pub IsFirstFixed : List Bool → Type 0
+IsFirstFixed fixed = (i : ℕ) → i ≢ 0 → slice_index_or fixed i false ≡ false

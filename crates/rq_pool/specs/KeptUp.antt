@@ -43,3 +43,11 @@ module _ {P : Type 0} (g : Ghosts P) (forced : ℕ) where
     pub crash : (p : ℕ) (c : List ℕ) → g.may_be new.device p c → MayBeKept old p c
     pub time : Elapses (g.moment old.device) (g.moment new.device) (g.left_since old.device) (g.left_since new.device)
         (Leaves (MayBeKept old))
+
+-- nothing happened but in frames
+pub record IsStill {P : Type 0} (old new : Pooled P) : Type 0 where
+  pub device : new.device ≡ old.device
+  pub sizes : new.sizes ≡ old.sizes
+  pub images : new.images ≡ old.images
+  pub changed : new.changed ≡ old.changed
+  pub apart : new.apart ≡ old.apart

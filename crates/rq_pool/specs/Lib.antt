@@ -6,3 +6,4 @@ pub mod Reading
 pub mod Writing
 pub mod KeptUp
 pub mod Fetching
+pub mod Want

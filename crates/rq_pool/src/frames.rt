@@ -4,7 +4,7 @@ ghost use Rattle.rq_page.specs.Sizes.{Sizes};
 ghost use Rattle.rq_page.specs.Pages.{IsWritten};
 ghost use Rattle.rq_page.specs.Formatted.{IsHeaderOf};
 ghost use Rattle.rq_level.specs.Meaning.{AppliesOnce, IsRedo, redo_of};
-ghost use Rattle.rq_pool.specs.Frames.{framed_at, images_of, changed_of};
+ghost use Rattle.rq_pool.specs.Frames.{framed_at, images_of, changed_of, fixed_of};
 
 use crate::Frame;
 use rq_level::{Level, Levels};
@@ -23,6 +23,7 @@ pub(crate) fn write_slot(frames: &mut Vec<Frame>, at: Addr, image: &Slot, lsn: L
         → IsHeaderOf z p (framed_at frames.new.items (at / 16)) }
     ensures others { (p : ℕ) → p ≢ at / 16 → framed_at frames.new.items p ≡ framed_at frames.old.items p }
     ensures changed { changed_of frames.new.items ≡ slice_set (changed_of frames.old.items) (at / 16) true }
+    ensures fixed { fixed_of frames.new.items ≡ fixed_of frames.old.items }
 {
     let frame = &mut frames[at.page() as usize];
     frame.page.set_slot(at.slot(), image, lsn);
@@ -47,6 +48,7 @@ pub(crate) fn redo_frame<B: Level>(
     ensures others { (p : ℕ) → p ≢ page → framed_at frames.new.items p ≡ framed_at frames.old.items p }
     ensures changed { IsTrue result → changed_of frames.new.items ≡ slice_set (changed_of frames.old.items) page true }
     ensures same { result ≡ false → frames.new.items ≡ frames.old.items }
+    ensures fixed { fixed_of frames.new.items ≡ fixed_of frames.old.items }
 {
     let frame = &mut frames[page as usize];
     let made = levels.redo(0, &mut frame.page, lsn, record);
@@ -62,7 +64,20 @@ pub(crate) fn mark(frames: &mut Vec<Frame>, page: u32, changed: bool)
     ensures count { length frames.new.items ≡ length frames.old.items }
     ensures images { images_of frames.new.items ≡ images_of frames.old.items }
     ensures changed { changed_of frames.new.items ≡ slice_set (changed_of frames.old.items) page changed }
+    ensures fixed { fixed_of frames.new.items ≡ fixed_of frames.old.items }
 {
     let frame = &mut frames[page as usize];
     frame.changed = changed;
+}
+
+/// Has the page in a frame be fixed there, or not.
+pub(crate) fn hold(frames: &mut Vec<Frame>, page: u32, fixed: bool)
+    requires { page < length frames.old.items }
+    ensures count { length frames.new.items ≡ length frames.old.items }
+    ensures images { images_of frames.new.items ≡ images_of frames.old.items }
+    ensures changed { changed_of frames.new.items ≡ changed_of frames.old.items }
+    ensures fixed { fixed_of frames.new.items ≡ slice_set (fixed_of frames.old.items) page fixed }
+{
+    let frame = &mut frames[page as usize];
+    frame.fixed = fixed;
 }

@@ -14,6 +14,7 @@ ghost use Rattle.rq_level.specs.Meaning.{AppliesOnce, redo_of};
 ghost use Rattle.rq_pool.specs.Pooled.{IsPool, image_at, is_changed};
 ghost use Rattle.rq_pool.specs.Indexed.{TellsClosed};
 
+mod fixing;
 pub mod formatting;
 mod frames;
 mod growing;
@@ -45,6 +46,8 @@ pub struct Frame {
     pub page: Page,
     /// Whether it was changed since it was read or written.
     pub changed: bool,
+    /// Whether an operation has fixed it.
+    pub fixed: bool,
 }
 
 /// What was done for a page that was to be written.
@@ -72,7 +75,7 @@ pub struct Pages<P: PageDevice> {
 
 impl<P: PageDevice> Model for Pages<P> {
     ghost use Rattle.rq_pool.specs.Pooled.{Pooled, AreOver};
-    ghost use Rattle.rq_pool.specs.Frames.{changed_of, images_of, in_order};
+    ghost use Rattle.rq_pool.specs.Frames.{changed_of, fixed_of, images_of, in_order};
     ghost use Rattle.rq_pool.specs.Indexed.{IsIndex, closed_groups, free_cells};
     ghost use Rattle.std.specs.Prelude.{None, length};
 
@@ -83,7 +86,7 @@ impl<P: PageDevice> Model for Pages<P> {
       sizes = p.layout;
       images = images_of p.frames.items;
       changed = changed_of p.frames.items;
-      frames = in_order 0 (length p.frames.items);
+      frames = in_order 0 (fixed_of p.frames.items);
       apart = None;
     } };
 
@@ -102,6 +105,7 @@ pub struct RefusedPages<P> {
 }
 
 impl<P: PageDevice + Drop> Pages<P> {
+    ghost use Rattle.rq_pool.specs.Held.{IsFixed};
     ghost use Rattle.rq_pool.specs.Reading.{ArePages, AreSeen, OnlyRead, StopsFor, device_of};
 
     /// Reads every page, and checks each as it is read: the superblock, then each page's header and slots.
@@ -115,6 +119,7 @@ impl<P: PageDevice + Drop> Pages<P> {
         ensures seen { IfOk result (λ pages. P.honest pages.device
             → AreSeen (P.seen device) pages.images (page_count pages.sizes)) }
         ensures changed { IfOk result (λ pages. pages.changed ≡ replicate (page_count pages.sizes) false) }
+        ensures loose { IfOk result (λ pages. (q : ℕ) → 1 ≤ q → IsFixed pages.frames q → ⊥) }
         ensures stopped { IfErr result (λ stopped. StopsFor P.PageDevice stopped.refusal device stopped.device) }
         ensures cause { OnOk result (P.faults (device_of result) ≡ P.faults device) }
         ensures device { OnlyRead P.PageDevice device (device_of result) }

@@ -7,7 +7,7 @@ ghost use Rattle.rq_page.specs.Cells.{free_bytes};
 ghost use Rattle.rq_page.specs.Slots.{IsSlotOf};
 ghost use Rattle.rq_page.specs.declared.layout.PageKind.TheVariants as kind;
 ghost use Rattle.rq_pool.specs.Indexed.{IsIndex, closed_groups, free_cells};
-ghost use Rattle.rq_pool.specs.Frames.{images_of, changed_of};
+ghost use Rattle.rq_pool.specs.Frames.{images_of, changed_of, fixed_of, IsFirstFixed};
 ghost use Rattle.rq_pool.specs.Reading.{OnlyRead, IsSuperblock, IsSoundPage, ArePages, AreSeen, StopsFor};
 
 use crate::Frame;
@@ -51,6 +51,7 @@ pub(crate) fn read_frames<P: PageDevice>(
     ensures seen { IfOk result (λ read. P.honest device.new
         → AreSeen (P.seen device.old) (images_of read.0.items) (page_count layout.now)) }
     ensures changed { IfOk result (λ read. changed_of read.0.items ≡ replicate (page_count layout.now) false) }
+    ensures fixed { IfOk result (λ read. IsFirstFixed (fixed_of read.0.items)) }
     ensures free { IfOk result (λ read. IsIndex (free_cells layout.now) layout.now (images_of read.0.items) read.1) }
     ensures closed { IfOk result (λ read. IsIndex (closed_groups layout.now) layout.now (images_of read.0.items) read.2) }
     ensures cause { OnOk result (P.faults device.new ≡ P.faults device.old) }
@@ -68,10 +69,10 @@ pub(crate) fn read_frames<P: PageDevice>(
         return Err(Refusal::NoMemory);
     };
     let mut page = superblock;
-    add_frame(&mut frames, &page)?;
+    add_frame(&mut frames, &page, true)?;
     for number in 1..count {
         read_sound_page(device, layout, number, &mut page)?;
-        add_frame(&mut frames, &page)?;
+        add_frame(&mut frames, &page, false)?;
         note_page(&mut free, &mut closed, layout, &frames, number);
     }
     Ok((frames, free, closed))
@@ -102,15 +103,17 @@ fn read_sound_page<P: PageDevice>(
     }
 }
 
-// Puts a page into a frame at the end.
-fn add_frame(frames: &mut Vec<Frame>, page: &Page) -> Result<(), Refusal>
+// Puts a page into a frame at the end, where it may be fixed for good.
+fn add_frame(frames: &mut Vec<Frame>, page: &Page, fixed: bool) -> Result<(), Refusal>
     ensures ok { OnOk result (images_of frames.new.items ≡ images_of frames.old.items ++ page.now ∷ []) }
     ensures changed { OnOk result (changed_of frames.new.items ≡ changed_of frames.old.items ++ false ∷ []) }
+    ensures fixed { OnOk result (fixed_of frames.new.items ≡ fixed_of frames.old.items ++ fixed ∷ []) }
     ensures err { IfErr result (λ e. e ≡ Refusal.NoMemory) }
 {
     let frame = Frame {
         page: Page::from_image(page.image()),
         changed: false,
+        fixed,
     };
     match frames.push(frame) {
         Ok(()) => Ok(()),

@@ -1,5 +1,5 @@
 use Rattle.std.proofs.Common.{◌∙◌, refl}
-use Rattle.rq_pool.proofs.Framed.{written_frame, header_frame, framed_other, changed_set}
+use Rattle.rq_pool.proofs.Framed.{fixed_kept, written_frame, header_frame, framed_other, changed_set}
 use Rattle.rq_pool.proofs.frames.write_slot.Goals as goal
 
 pub returns-clause-page : goal.returns-clause-page
@@ -14,3 +14,6 @@ returns-clause-others c = λ p ne. framed_other _ _ p _ (λ e. ne (e ∙ c.page.
 
 pub returns-clause-changed : goal.returns-clause-changed
 returns-clause-changed c = changed_set _ _ _ _ _ c.page.ensures refl
+
+pub returns-clause-fixed : goal.returns-clause-fixed
+returns-clause-fixed c = fixed_kept _ _ _ _ c.index_mut-frame.ensures.value refl

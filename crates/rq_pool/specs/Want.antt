@@ -1,0 +1,79 @@
+-- Several pages that are wanted in frames at once.
+use Rattle.std.specs.Prelude.{◌≡◌, ℕ, ◌<◌, ◌≤◌, ◌||◌, nat_eq, nat_lt, Bool, true, false, List, [], ◌∷◌, length, slice_index_or}
+use Rattle.std.specs.List.{sum_by}
+use Rattle.rq_model.specs.declared.refusal.Refusal.{Refusal}
+use Rattle.rq_model.specs.declared.refusal.Refusal.TheVariants as why
+use Rattle.rq_model.specs.declared.refusal.Damage.TheVariants as damage
+use Rattle.rq_disk.specs.Device.PageAsk.{Reads, Writes}
+use Rattle.rq_disk.specs.declared.device.PageDevice.{Ghosts}
+use Rattle.rq_page.specs.Sizes.{Sizes, page_count}
+use Rattle.rq_page.specs.Pages.{lsn_of}
+use Rattle.rq_pool.specs.Fetching.{HasFailed, HasOutside}
+use Rattle.rq_pool.specs.Held.{Held, IsFixed}
+use Rattle.rq_pool.specs.KeptUp.{IsForced}
+use Rattle.rq_pool.specs.Pooled.{Pooled, image_at}
+
+-- the page is one of these
+abbrev pub among : List ℕ → ℕ → Bool
+among [] q = false
+among (p ∷ ps) q = nat_eq p q || among ps q
+
+-- it stands in one of these frames
+abbrev pub framed_in : List Held → ℕ → Bool
+framed_in [] q = false
+framed_in (h ∷ hs) q = nat_eq h.page q || framed_in hs q
+
+-- no page is named twice
+abbrev pub AreApart : List ℕ → Type 0
+AreApart [] = Unit {0}
+AreApart (p ∷ ps) = (among ps p ≡ false) × AreApart ps
+
+-- each is a page of the store behind the first
+abbrev pub AreOfStore : Sizes → List ℕ → Type 0
+AreOfStore z ps = (i : ℕ) → i < length ps → (1 ≤ slice_index_or ps i 0) × (slice_index_or ps i 0 < page_count z)
+
+-- 0 where so, else 1
+abbrev pub one_unless : Bool → ℕ
+one_unless true = 0
+one_unless false = 1
+
+-- 1 where the page in a frame may give way to one of these and is none of them, else 0
+abbrev pub spare_one : List (List ℕ) → ℕ → List ℕ → Held → ℕ
+spare_one images forced ps h =
+    one_unless (h.fixed || (among ps h.page || nat_lt forced (lsn_of (image_at images h.page))))
+
+-- how many frames may: they are not fixed, have none of these pages, and the LSN of theirs is forced
+abbrev pub spare_for : List (List ℕ) → ℕ → List ℕ → List Held → ℕ
+spare_for images forced ps frames = sum_by (spare_one images forced ps) frames
+
+-- 1 where a page stands in no frame, else 0
+abbrev pub lack : List Held → ℕ → ℕ
+lack frames p = one_unless (framed_in frames p)
+
+-- how many of these pages stand in no frame
+abbrev pub missing : List Held → List ℕ → ℕ
+missing frames ps = sum_by (lack frames) ps
+
+-- they outnumber those frames
+abbrev pub CannotBeHad : {P : Type 0} → Pooled P → ℕ → List ℕ → Type 0
+CannotBeHad old forced ps = spare_for old.images forced ps old.frames < missing old.frames ps
+
+-- of each page but these, it is fixed in a frame exactly where it was
+pub record StayFixed (ps : List ℕ) (old new : List Held) : Type 0 where
+  pub to : (q : ℕ) → among ps q ≡ false → IsFixed old q → IsFixed new q
+  pub from : (q : ℕ) → among ps q ≡ false → IsFixed new q → IsFixed old q
+
+-- none of these pages is fixed in a frame
+abbrev pub NoneFixed : List ℕ → List Held → Type 0
+NoneFixed ps frames = (q : ℕ) → among ps q ≡ true → IsFixed frames q → ⊥
+
+-- Why pages were not fixed. They cannot all be had. Or a device failed: as it read a page that stood in no frame, or as it wrote out one
+-- whose last record is forced. Or it gave no page of a store, and is not honest.
+abbrev pub NotFixed : {P : Type 0} → Ghosts P → ℕ → List ℕ → Refusal → Pooled P → Pooled P → Type 0
+NotFixed g forced ps why.PoolFull old new = CannotBeHad old forced ps × (g.faults new.device ≡ g.faults old.device)
+NotFixed g forced ps why.DiskRead old new = (out : HasOutside old) × HasFailed g (Reads out.page) old.device new.device
+NotFixed g forced ps why.DiskWrite old new = (page : ℕ) × (image : List ℕ) × IsForced g forced new page image
+    × HasFailed g (Writes page image) old.device new.device
+NotFixed g forced ps (why.Damaged (damage.Page n)) old new = (among ps n ≡ true) × (g.honest new.device → ⊥)
+    × (g.faults new.device ≡ g.faults old.device)
+NotFixed g forced ps _ old new = ⊥
