@@ -45,7 +45,7 @@ over s pages log = record {
   pages = pages;
   log = log;
   changed = false ∷ true ∷ true ∷ [];
-  frames = in_order 0 3;
+  frames = in_order 0 (true ∷ false ∷ false ∷ []);
   apart = None;
   replacing = false;
 }

@@ -67,8 +67,8 @@ pub record StayFixed (ps : List ℕ) (old new : List Held) : Type 0 where
 abbrev pub NoneFixed : List ℕ → List Held → Type 0
 NoneFixed ps frames = (q : ℕ) → among ps q ≡ true → IsFixed frames q → ⊥
 
--- Why pages were not fixed. They cannot all be had. Or a device failed: as it read a page that stood in no frame, or as it wrote out one
--- whose last record is forced. Or it gave no page of a store, and is not honest.
+-- Why pages were not fixed. They cannot all be had. Or a device failed: as it read a page that stood in no frame, or as it wrote out
+-- one whose last record is forced. Or it gave no page of a store, and is not honest.
 abbrev pub NotFixed : {P : Type 0} → Ghosts P → ℕ → List ℕ → Refusal → Pooled P → Pooled P → Type 0
 NotFixed g forced ps why.PoolFull old new = CannotBeHad old forced ps × (g.faults new.device ≡ g.faults old.device)
 NotFixed g forced ps why.DiskRead old new = (out : HasOutside old) × HasFailed g (Reads out.page) old.device new.device

@@ -60,8 +60,8 @@ pub enum Written {
 }
 
 /// Every page of the store, by number. Contracts see the device, the sizes, the images, of each page whether it was
-/// changed since it was read or written, and which page stands in each frame. Here each stands in the frame of its
-/// number; by contract of a read (`look`) one may stand in none.
+/// changed since it was read or written, which page stands in each frame, and whether it is fixed there. Here each stands in the
+/// frame of its number; by contract of a read (`look`) one may stand in none. The superblock is fixed in its frame for good.
 #[derive(Drop)]
 pub struct Pages<P: PageDevice> {
     device: P,
@@ -318,7 +318,7 @@ impl<P: PageDevice> Pages<P> {
         }
     }
 
-    /// Has a page be at hand, in a frame or apart. What stands in no frame is read in one device call.
+    /// Has a page be at hand, in a frame or apart. What stands in no frame is read.
     ///
     /// # Errors
     /// `DiskRead`; `Damaged`, where the device has lied and gave no page of a store.
