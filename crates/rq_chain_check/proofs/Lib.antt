@@ -2,6 +2,8 @@ pub mod Chains
 pub mod Cover
 pub mod Faults
 pub mod Followed
-pub mod Sound
-pub mod Walks
 pub mod Nexts
+pub mod Options
+pub mod Sound
+pub mod Stops
+pub mod Walks

@@ -6,7 +6,7 @@ use Rattle.std.proofs.lemmas.List.{length-append, map-append}
 use Rattle.rq_model.specs.Vocabulary.{In}
 use Rattle.rq_model.proofs.Lists.{In-parts, In-right, In-left}
 use Rattle.rq_page.specs.declared.directory.Directory.{Directory}
-use Rattle.rq_page.specs.Sizes.{Sizes, IsCellAddress, IsLink, cell_at, directory_at, place_of}
+use Rattle.rq_page.specs.Sizes.{Sizes, IsCellAddress, cell_at, directory_at, place_of}
 use Rattle.rq_page.specs.Slots.Slot.{Sender}
 use Rattle.rq_page.proofs.Addresses.{cells_have_places, places_are_cells}
 use Rattle.rq_bitset.specs.Flags.{flag_at, OthersStay}
@@ -56,12 +56,11 @@ pub record IsWalk (z : Sizes) (q : Slots) (s : ℕ) (d : Directory) (old met : L
   pub head : d.head ≡ first nodes at
   pub behind : before ≡ last 0 nodes
   pub many : d.received + length nodes ≡ count
-  pub link : IsLink z at
   pub noted : AreNoted z old met nodes
 
 pub walk_goes : (z : Sizes) (q : Slots) (s : ℕ) (d : Directory) (old met new : List ℕ) (count before at next : ℕ) → IsWalk z q s d old met count before at → IsLinkedCell (cells_of q) s (count + 1) before at next
-    → IsCellAddress z at → IsLink z next → flag_at new (place_of z at) ≡ 1 → OthersStay (place_of z at) met new → IsWalk z q s d old new (count + 1) at next
-walk_goes z q s d old met new count before at next w c cell link set others =
+    → IsCellAddress z at → flag_at new (place_of z at) ≡ 1 → OthersStay (place_of z at) met new → IsWalk z q s d old new (count + 1) at next
+walk_goes z q s d old met new count before at next w c cell set others =
     let m = cells_of q in
     let n : Node = node_of at c.cell in
     let many = w.many in
@@ -74,7 +73,6 @@ walk_goes z q s d old met new count before at next w c cell link set others =
       head = w.head ∙ sym (first_append w.nodes (n ∷ []) next);
       behind = sym (last_append 0 w.nodes n);
       many = omega (arith, one, many);
-      link = link;
       noted = noted_more z old met new w.nodes n w.noted cell set others;
     }
 

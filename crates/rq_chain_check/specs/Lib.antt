@@ -1,3 +1,4 @@
 pub mod Links
 pub mod Follows
+pub mod Stops
 pub mod Theorems

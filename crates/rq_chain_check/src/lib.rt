@@ -1,20 +1,23 @@
 //! Whether each sender's chain of cells is whole, and each used cell in one of them.
 #![tactic(auto)]
 
-ghost use Rattle.std.specs.Prelude.{◌≡◌, ◌↔◌, ◌*◌, ◌+◌, ◌<◌, ◌≤◌, ◌⊎◌, ℕ, List, Some, length, true, IsTrue, IfOk, IfSome, IfNone};
+ghost use Rattle.std.specs.Prelude.{◌≡◌, ◌↔◌, ◌*◌, ◌+◌, ◌<◌, ◌≤◌, ◌⊎◌, ℕ, List, Some, length, true, IsTrue, IfOk, IfErr, IfSome, IfNone};
 ghost use Rattle.std.specs.Bool.{OnTrue, OnFalse};
 ghost use Rattle.rq_bitset.specs.Flags.{flag_at};
-ghost use Rattle.rq_page.specs.Sizes.{IsCellAddress, IsLink, cell_at, cell_count, sender_count};
+ghost use Rattle.rq_page.specs.Sizes.{IsCellAddress, IsLink, cell_at, cell_count, directory_at, page_count, sender_count};
+ghost use Rattle.rq_page.specs.Slots.{Sender};
 ghost use Rattle.rq_views.specs.Chain.{Node};
 ghost use Rattle.rq_views.specs.Log.{cells_of};
 ghost use Rattle.rq_views.specs.Stored.{slots_in};
+ghost use Rattle.rq_pool.specs.Fetching.{HasReadFor, ReadsTruly};
 ghost use Rattle.rq_chain_check.specs.Follows.{AreFollowed, EndsSo, IsFollowed, IsLinkedCell, IsNextFree};
 ghost use Rattle.rq_chain_check.specs.Links.{AreLinked, IsChain, IsFault, IsFirstBroken, IsFirstUnmet};
+ghost use Rattle.rq_chain_check.specs.Stops.{ChecksNot, IsReadAsStored};
 ghost use Rattle.rq_chain_check.specs.Theorems.{FaultsAreExact, SoundStoresAreLinked};
 
 use rq_bitset::Index;
 use rq_disk::PageDevice;
-use rq_model::refusal::NoMemory;
+use rq_model::refusal::Refusal;
 use rq_page::addr::Addr;
 use rq_page::directory::Directory;
 use rq_pool::Pages;
@@ -31,61 +34,112 @@ use std::alloc::Global;
 /// a used cell that is in no chain.
 ///
 /// # Errors
-/// `NoMemory`.
-pub fn first_broken<P: PageDevice>(alloc: Global, pages: &Pages<P>) -> Result<Option<u32>, NoMemory>
-    ensures whole { IfOk result (λ page. IfNone page (AreLinked pages.now.sizes
-        (slots_in pages.now.sizes pages.now.images))) }
-    ensures fault { IfOk result (λ page. IfSome page (λ number. IsFault pages.now.sizes
-        (slots_in pages.now.sizes pages.now.images) number)) }
+/// `NoMemory`; `DiskRead`, where a page stands in no frame; `Damaged` with a page that a device gave that has lied.
+pub fn first_broken<P: PageDevice>(
+    alloc: Global,
+    pages: &mut Pages<P>,
+) -> Result<Option<u32>, Refusal>
+    ensures whole { ReadsTruly P.PageDevice pages.old result pages.new → IfOk result (λ page. IfNone page
+        (AreLinked pages.old.sizes (slots_in pages.old.sizes pages.old.images))) }
+    ensures fault { ReadsTruly P.PageDevice pages.old result pages.new → IfOk result (λ page. IfSome page
+        (λ number. IsFault pages.old.sizes (slots_in pages.old.sizes pages.old.images) number)) }
+    ensures named { IfOk result (λ page. IfSome page (λ number. number < page_count pages.old.sizes)) }
+    ensures refused { IfErr result (λ e. ChecksNot P.PageDevice pages.old e pages.new) }
+    ensures read { HasReadFor P.PageDevice pages.old result pages.new }
 {
-    let mut met = Index::new(alloc, pages.layout().cell_slots())?;
+    let Ok(mut met) = Index::new(alloc, pages.layout().cell_slots()) else {
+        return Err(Refusal::NoMemory);
+    };
     match first_unlinked(pages, &mut met) {
-        Some(page) => Ok(Some(page)),
-        None => Ok(first_unmet(pages, &met)),
+        Ok(Some(page)) => Ok(Some(page)),
+        Ok(None) => Ok(first_unmet(pages, &met)),
+        Err(refusal) => Err(refusal),
     }
 }
 
 // Follows each sender's chain and notes its cells; or the page of the first sender that has none.
-fn first_unlinked<P: PageDevice>(pages: &Pages<P>, met: &mut Index) -> Option<u32>
-    requires room { cell_count pages.now.sizes ≤ 64 * length met.old }
+fn first_unlinked<P: PageDevice>(
+    pages: &mut Pages<P>,
+    met: &mut Index,
+) -> Result<Option<u32>, Refusal>
+    requires room { cell_count pages.old.sizes ≤ 64 * length met.old }
     requires none { (k : ℕ) → flag_at met.old k ≡ 0 }
-    ensures whole { IfNone result (AreFollowed pages.now.sizes (slots_in pages.now.sizes pages.now.images)
-        (sender_count pages.now.sizes) met.new) }
-    ensures broken { IfSome result (λ page. IsFirstBroken pages.now.sizes
-        (slots_in pages.now.sizes pages.now.images) page) }
+    ensures whole { IsReadAsStored P.PageDevice pages.old pages.new → IfOk result (λ broken. IfNone broken
+        (AreFollowed pages.old.sizes (slots_in pages.old.sizes pages.old.images) (sender_count pages.old.sizes)
+        met.new)) }
+    ensures broken { IsReadAsStored P.PageDevice pages.old pages.new → IfOk result (λ broken. IfSome broken
+        (λ page. IsFirstBroken pages.old.sizes (slots_in pages.old.sizes pages.old.images) page)) }
+    ensures named { IfOk result (λ broken. IfSome broken (λ page. page < page_count pages.old.sizes)) }
+    ensures refused { IfErr result (λ e. ChecksNot P.PageDevice pages.old e pages.new) }
+    ensures read { HasReadFor P.PageDevice pages.old result pages.new }
 {
     for sender in 0..pages.layout().senders() {
-        if !follow(pages, sender, met) {
-            let at = pages.layout().directory_of(sender);
-            return Some(at.page() as u32);
+        match follow(pages, sender, met) {
+            Ok(true) => {}
+            Ok(false) => {
+                let at = pages.layout().directory_of(sender);
+                return Ok(Some(at.page() as u32));
+            }
+            Err(refusal) => return Err(refusal),
         }
     }
-    None
+    Ok(None)
 }
 
 // Follows a sender's chain, and notes its cells. Whether it is whole.
-fn follow<P: PageDevice>(pages: &Pages<P>, sender: u32, met: &mut Index) -> bool
-    requires sender { sender < sender_count pages.now.sizes }
-    requires room { cell_count pages.now.sizes ≤ 64 * length met.old }
-    ensures whole { OnTrue result (IsFollowed pages.now.sizes (slots_in pages.now.sizes pages.now.images)
-        sender met.old met.new) }
-    ensures broken { OnFalse result ((nodes : List Node)
-        → IsChain (slots_in pages.now.sizes pages.now.images) sender nodes → ⊥) }
+fn follow<P: PageDevice>(
+    pages: &mut Pages<P>,
+    sender: u32,
+    met: &mut Index,
+) -> Result<bool, Refusal>
+    requires sender { sender < sender_count pages.old.sizes }
+    requires room { cell_count pages.old.sizes ≤ 64 * length met.old }
+    ensures whole { IsReadAsStored P.PageDevice pages.old pages.new → IfOk result (λ whole. OnTrue whole
+        (IsFollowed pages.old.sizes (slots_in pages.old.sizes pages.old.images) sender met.old met.new)) }
+    ensures broken { IsReadAsStored P.PageDevice pages.old pages.new → IfOk result (λ whole. OnFalse whole
+        ((nodes : List Node) → IsChain (slots_in pages.old.sizes pages.old.images) sender nodes → ⊥)) }
     ensures same { length met.new ≡ length met.old }
+    ensures refused { IfErr result (λ e. ChecksNot P.PageDevice pages.old e pages.new) }
+    ensures read { HasReadFor P.PageDevice pages.old result pages.new }
+{
+    match pages.read_group(sender) {
+        Ok(group) => follow_cells(pages, sender, &group, met),
+        Err(refusal) => Err(refusal),
+    }
+}
+
+// The same of a sender whose directory slot says this.
+fn follow_cells<P: PageDevice>(
+    pages: &mut Pages<P>,
+    sender: u32,
+    group: &Directory,
+    met: &mut Index,
+) -> Result<bool, Refusal>
+    requires held { slots_in pages.old.sizes pages.old.images (directory_at sender) ≡ Sender sender group.now }
+    requires head { IsLink pages.old.sizes group.now.head }
+    requires room { cell_count pages.old.sizes ≤ 64 * length met.old }
+    ensures whole { IsReadAsStored P.PageDevice pages.old pages.new → IfOk result (λ whole. OnTrue whole
+        (IsFollowed pages.old.sizes (slots_in pages.old.sizes pages.old.images) sender met.old met.new)) }
+    ensures broken { IsReadAsStored P.PageDevice pages.old pages.new → IfOk result (λ whole. OnFalse whole
+        ((nodes : List Node) → IsChain (slots_in pages.old.sizes pages.old.images) sender nodes → ⊥)) }
+    ensures same { length met.new ≡ length met.old }
+    ensures refused { IfErr result (λ e. ChecksNot P.PageDevice pages.old e pages.new) }
+    ensures read { HasReadFor P.PageDevice pages.old result pages.new }
 {
     let layout = pages.layout();
-    let group = pages.group(sender);
     let mut before = Addr::NONE;
     let mut at = group.head;
     for received in group.received..group.sent {
-        let Some(next) = linked_cell(pages, sender, received + 1, before, at) else {
-            return false;
+        let next = match linked_cell(pages, sender, received + 1, before, at) {
+            Ok(Some(next)) => next,
+            Ok(None) => return Ok(false),
+            Err(refusal) => return Err(refusal),
         };
         met.put(layout.cell_place(at) as usize, true);
         before = at;
         at = next;
     }
-    is_end(&group, before, at)
+    Ok(is_end(group, before, at))
 }
 
 // Whether a chain that was followed to its last cell ends as the directory says.
@@ -98,40 +152,47 @@ fn is_end(group: &Directory, last: Addr, next: Addr) -> bool
 // The link of the cell at an address. That cell has to be used, to carry the sender and this number, and to name the one
 // before it; else none.
 fn linked_cell<P: PageDevice>(
-    pages: &Pages<P>,
+    pages: &mut Pages<P>,
     sender: u32,
     sequence: u64,
     before: Addr,
     at: Addr,
-) -> Option<Addr>
-    requires { IsLink pages.now.sizes at }
-    ensures cell { IfSome result (λ next. IsLinkedCell (cells_of (slots_in pages.now.sizes pages.now.images))
-        sender sequence before at next) }
-    ensures place { IfSome result (λ next. IsCellAddress pages.now.sizes at) }
-    ensures link { IfSome result (λ next. IsLink pages.now.sizes next) }
-    ensures none { IfNone result ((next : ℕ) → IsLinkedCell (cells_of (slots_in pages.now.sizes pages.now.images))
-        sender sequence before at next → ⊥) }
+) -> Result<Option<Addr>, Refusal>
+    requires { IsLink pages.old.sizes at }
+    ensures cell { IfOk result (λ found. IfSome found (λ next.
+        IsLinkedCell (cells_of (slots_in pages.new.sizes pages.new.images)) sender sequence before at next)) }
+    ensures place { IfOk result (λ found. IfSome found (λ next. IsCellAddress pages.old.sizes at)) }
+    ensures link { IfOk result (λ found. IfSome found (λ next. IsLink pages.old.sizes next)) }
+    ensures none { IfOk result (λ found. IfNone found ((next : ℕ)
+        → IsLinkedCell (cells_of (slots_in pages.new.sizes pages.new.images)) sender sequence before at next → ⊥)) }
+    ensures refused { IfErr result (λ e. ChecksNot P.PageDevice pages.old e pages.new) }
+    ensures read { HasReadFor P.PageDevice pages.old result pages.new }
 {
     if at.is_none() {
-        return None;
+        return Ok(None);
     }
-    let Some(cell) = pages.cell(at) else {
-        return None;
-    };
-    if cell.sender == sender && cell.sequence == sequence && cell.prev == before {
-        Some(cell.next)
-    } else {
-        None
+    match pages.read_cell(at) {
+        Ok(Some(cell)) => {
+            if cell.sender == sender && cell.sequence == sequence && cell.prev == before {
+                Ok(Some(cell.next))
+            } else {
+                Ok(None)
+            }
+        }
+        Ok(None) => Ok(None),
+        Err(refusal) => Err(refusal),
     }
 }
 
-// The first page with a used cell that is not noted.
+// The first page with a used cell that is not noted. No page is read.
 fn first_unmet<P: PageDevice>(pages: &Pages<P>, met: &Index) -> Option<u32>
-    requires { AreFollowed pages.now.sizes (slots_in pages.now.sizes pages.now.images)
-        (sender_count pages.now.sizes) met.now }
-    ensures whole { IfNone result (AreLinked pages.now.sizes (slots_in pages.now.sizes pages.now.images)) }
-    ensures unmet { IfSome result (λ page. IsFirstUnmet pages.now.sizes
+    ensures whole { AreFollowed pages.now.sizes (slots_in pages.now.sizes pages.now.images)
+        (sender_count pages.now.sizes) met.now → IfNone result (AreLinked pages.now.sizes
+        (slots_in pages.now.sizes pages.now.images)) }
+    ensures unmet { AreFollowed pages.now.sizes (slots_in pages.now.sizes pages.now.images)
+        (sender_count pages.now.sizes) met.now → IfSome result (λ page. IsFirstUnmet pages.now.sizes
         (slots_in pages.now.sizes pages.now.images) page) }
+    ensures named { IfSome result (λ page. page < page_count pages.now.sizes) }
 {
     let layout = pages.layout();
     let mut free = next_free(pages, 0);

@@ -1,55 +1,45 @@
-use Rattle.std.proofs.Common.{◌≡◌, ◌≤◌, ap, sym, ◌∙◌, subst, arith}
-use Rattle.rq_page.specs.declared.directory.Directory.{Directory}
-use Rattle.rq_page.specs.Sizes.{Sizes, cell_count, place_of}
-use Rattle.rq_bitset.specs.Flags.{flag_at, OthersStay}
+use Rattle.std.proofs.Common.{◌≡◌, ◌*◌, ◌<◌, ◌≤◌, ◌/◌, List, length, IfOk, rules, sym, subst, arith}
+use Rattle.std.specs.Bool.{OnTrue, OnFalse}
+use Rattle.std.proofs.lemmas.Result.{IfErr-weaker}
+use Rattle.rq_page.specs.Sizes.{Sizes, cell_count, directory_at, page_count}
+use Rattle.rq_page.proofs.Addresses.{senders_have_slots}
+use Rattle.rq_views.specs.Chain.{Node}
 use Rattle.rq_views.specs.Stored.{slots_in}
-use Rattle.rq_chain_check.proofs.Walks.{walk_goes, walk_stops, ends_whole, ends_broken}
+use Rattle.rq_pool.proofs.Fetched.{unfetched_reads}
+use Rattle.rq_chain_check.specs.Follows.{IsFollowed}
+use Rattle.rq_chain_check.specs.Links.{IsChain}
+use Rattle.rq_chain_check.proofs.Stops.{answers_on, over_stored, stored_after, stored_before, unread_later}
 use Rattle.rq_chain_check.proofs.follow.Goals as goal
 
-pub returns-in_default-clause-broken : goal.returns-in_default-clause-broken
-returns-in_default-clause-broken g c =
-    let z = c.args.pages.now.sizes in
-    let q = slots_in z c.args.pages.now.images in
-    walk_stops z q c.args.sender c.group-group.result c.args.met.now c.loop-received.met c.loop-received.received c.loop-received.before c.loop-received.at c.group-group.ensures.held c.loop-received.invariant.walk
-    c.loop-received-test.true c.in_default.ensures.none
+pub follow_cells-requires-clause-room : goal.follow_cells-requires-clause-room
+follow_cells-requires-clause-room g c = subst (λ (z : Sizes). cell_count z ≤ 64 * length c.args.met.now) (sym (c.in-Ok.ensures.fetched.read.kept 0).sizes) c.requires.room
 
-pub put-requires : goal.put-requires
-put-requires g c =
-    let z = c.args.pages.now.sizes in
-    let of_layout : cell_count c.layout-layout.result ≡ cell_count z = ap cell_count c.layout-layout.ensures.sizes in
-    let below = c.cell_place.ensures.below in
-    let room = c.requires.room in
-    let same = c.loop-received.invariant.same in
-    omega (arith, of_layout, below, room, same)
+pub returns-in-Ok-clause-whole : goal.returns-in-Ok-clause-whole
+returns-in-Ok-clause-whole g c stored =
+    let old = c.args.pages.now in
+    let mid = c.read_group.new.self in
+    let new = c.follow_cells.new.pages in
+    let read = c.in-Ok.ensures.fetched.read in
+    over_stored g.P.PageDevice (λ z images. IfOk c.follow_cells.result (λ whole. OnTrue whole (IsFollowed z (slots_in z images) c.args.sender c.args.met.now c.follow_cells.new.met))) old mid read
+    (stored_before g.P.PageDevice old mid new c.follow_cells.ensures.read.read stored) (c.follow_cells.ensures.whole (stored_after g.P.PageDevice old mid new read stored))
 
-pub loop-received-preserved : goal.loop-received-preserved
-loop-received-preserved g c =
-    let z = c.args.pages.now.sizes in
-    let q = slots_in z c.args.pages.now.images in
-    let place : c.cell_place.result ≡ place_of z c.loop-received.at = c.cell_place.ensures.value ∙ ap (λ (l : Sizes). place_of l c.loop-received.at) c.layout-layout.ensures.sizes in
-    record {
-      walk = walk_goes z q c.args.sender c.group-group.result c.args.met.now c.loop-received.met c.put.new.self c.loop-received.received c.loop-received.before c.loop-received.at c.in-Some.next
-          c.loop-received.invariant.walk c.in-Some.ensures.cell c.in-Some.ensures.place c.in-Some.ensures.link (sym (ap (flag_at c.put.new.self) place) ∙ c.put.ensures.put)
-          (subst (λ k. OthersStay k c.loop-received.met c.put.new.self) place c.put.ensures.others);
-      same = c.put.ensures.same ∙ c.loop-received.invariant.same;
-    }
+pub returns-in-Ok-clause-broken : goal.returns-in-Ok-clause-broken
+returns-in-Ok-clause-broken g c stored =
+    let old = c.args.pages.now in
+    let mid = c.read_group.new.self in
+    let new = c.follow_cells.new.pages in
+    let read = c.in-Ok.ensures.fetched.read in
+    over_stored g.P.PageDevice (λ z images. IfOk c.follow_cells.result (λ whole. OnFalse whole ((nodes : List Node) → IsChain (slots_in z images) c.args.sender nodes → ⊥))) old mid read
+    (stored_before g.P.PageDevice old mid new c.follow_cells.ensures.read.read stored) (c.follow_cells.ensures.broken (stored_after g.P.PageDevice old mid new read stored))
 
-pub returns-clause-whole : goal.returns-clause-whole
-returns-clause-whole g c =
-    let z = c.args.pages.now.sizes in
-    let q = slots_in z c.args.pages.now.images in
-    let d : Directory = c.group-group.result in
-    let done = c.loop-received-test.false in
-    let high = c.loop-received.auto.received-end in
-    let all : d.received ≤ d.sent → c.loop-received.received ≡ d.sent = (λ up. let most = high up in omega (arith, most, done)) in
-    ends_whole z q c.args.sender d c.args.met.now c.loop-received.met c.loop-received.received c.loop-received.before c.loop-received.at c.group-group.ensures.held c.loop-received.invariant.walk all c.is_end.result c.is_end.ensures
+pub returns-in-Ok-clause-refused : goal.returns-in-Ok-clause-refused
+returns-in-Ok-clause-refused g c = IfErr-weaker c.follow_cells.result _ _ (λ e not. unread_later g.P.PageDevice e c.args.pages.now c.read_group.new.self c.follow_cells.new.pages c.in-Ok.ensures.fetched.read not) c.follow_cells.ensures.refused
 
-pub returns-clause-broken : goal.returns-clause-broken
-returns-clause-broken g c =
-    let z = c.args.pages.now.sizes in
-    let q = slots_in z c.args.pages.now.images in
-    let d : Directory = c.group-group.result in
-    let done = c.loop-received-test.false in
-    let high = c.loop-received.auto.received-end in
-    let all : d.received ≤ d.sent → c.loop-received.received ≡ d.sent = (λ up. let most = high up in omega (arith, most, done)) in
-    ends_broken z q c.args.sender d c.args.met.now c.loop-received.met c.loop-received.received c.loop-received.before c.loop-received.at c.group-group.ensures.held c.loop-received.invariant.walk all c.is_end.result c.is_end.ensures
+pub returns-in-Ok-clause-read : goal.returns-in-Ok-clause-read
+returns-in-Ok-clause-read g c = answers_on g.P.PageDevice c.follow_cells.result c.args.pages.now c.read_group.new.self c.follow_cells.new.pages c.in-Ok.ensures.fetched.read c.in-Ok.ensures.fetched.counted c.follow_cells.ensures.read
+
+pub returns-in-Err-clause-read : goal.returns-in-Err-clause-read
+returns-in-Err-clause-read g c =
+    let stands = senders_have_slots c.args.pages.now.sizes c.args.sender c.requires.sender in
+    let high : directory_at c.args.sender / 16 < page_count c.args.pages.now.sizes = (let within = stands.1 in omega (arith, within)) in
+    unfetched_reads g.P.PageDevice (directory_at c.args.sender / 16) c.args.pages.now c.read_group.new.self c.in-Err.refusal stands.0 high c.in-Err.ensures.fetched
