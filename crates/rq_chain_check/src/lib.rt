@@ -162,7 +162,7 @@ fn linked_cell<P: PageDevice>(
     ensures cell { IfOk result (λ found. IfSome found (λ next.
         IsLinkedCell (cells_of (slots_in pages.new.sizes pages.new.images)) sender sequence before at next)) }
     ensures place { IfOk result (λ found. IfSome found (λ next. IsCellAddress pages.old.sizes at)) }
-    ensures link { IfOk result (λ found. IfSome found (λ next. IsLink pages.old.sizes next)) }
+    ensures link { IfOk result (λ found. IfSome found (λ next. IsLink pages.new.sizes next)) }
     ensures none { IfOk result (λ found. IfNone found ((next : ℕ)
         → IsLinkedCell (cells_of (slots_in pages.new.sizes pages.new.images)) sender sequence before at next → ⊥)) }
     ensures refused { IfErr result (λ e. ChecksNot P.PageDevice pages.old e pages.new) }

@@ -26,7 +26,7 @@ returns-in-Ok-None-clause-fault g c truly =
     let met = c.first_unlinked.new.met in
     let followed = none_told (AreFollowed z q (sender_count z) met) c.in-Ok-None.field-0 c.in-Ok-None.field-0-is (unlinked.whole truly.0) in
     let unmet = over_stored g.P.PageDevice (λ y images. AreFollowed y (slots_in y images) (sender_count y) met → IfSome c.first_unmet.result (λ page. IsFirstUnmet y (slots_in y images) page)) c.args.pages.now c.first_unlinked.new.pages unlinked.read.read truly.0
-        c.first_unmet.ensures.unmet followed in
+    c.first_unmet.ensures.unmet followed in
     IfSome_then c.first_unmet.result unmet (λ page first. inr first)
 
 pub returns-in-Ok-None-clause-named : goal.returns-in-Ok-None-clause-named

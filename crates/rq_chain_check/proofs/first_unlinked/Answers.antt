@@ -1,7 +1,6 @@
-use Rattle.std.proofs.Common.{◌≡◌, ◌*◌, ◌<◌, ◌≤◌, ◌/◌, List, length, Ok, Err, Some, None, rules, refl, sym, subst, ap, ◌∙◌, arith}
+use Rattle.std.proofs.Common.{◌*◌, ◌<◌, ◌≤◌, ◌/◌, List, length, rules, refl, sym, subst, ap, ◌∙◌, arith}
 use Rattle.std.proofs.lemmas.Bool.{OnTrue_at, OnFalse_at}
-use Rattle.rq_page.specs.Sizes.{Sizes, cell_count, directory_at, page_count, sender_count}
-use Rattle.rq_page.proofs.Addresses.{senders_have_slots}
+use Rattle.rq_page.specs.Sizes.{Sizes, cell_count, sender_count}
 use Rattle.rq_views.specs.Chain.{Node}
 use Rattle.rq_views.specs.Stored.{slots_in}
 use Rattle.rq_pool.proofs.Fetched.{read_then, still_read}

@@ -1,4 +1,4 @@
-use Rattle.std.proofs.Common.{◌≡◌, ◌*◌, ◌<◌, ◌≤◌, ◌/◌, List, length, IfOk, rules, sym, subst, arith}
+use Rattle.std.proofs.Common.{◌*◌, ◌<◌, ◌≤◌, ◌/◌, List, length, IfOk, sym, subst, arith}
 use Rattle.std.specs.Bool.{OnTrue, OnFalse}
 use Rattle.std.proofs.lemmas.Result.{IfErr-weaker}
 use Rattle.rq_page.specs.Sizes.{Sizes, cell_count, directory_at, page_count}

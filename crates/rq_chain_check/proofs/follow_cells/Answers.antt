@@ -1,4 +1,4 @@
-use Rattle.std.proofs.Common.{◌≡◌, ◌+◌, ◌≤◌, ℕ, Ok, Err, Some, None, ap, sym, ◌∙◌, subst, arith}
+use Rattle.std.proofs.Common.{◌≡◌, ◌+◌, ◌≤◌, ℕ, ap, sym, ◌∙◌, subst, arith}
 use Rattle.rq_page.specs.declared.directory.Directory.{Directory}
 use Rattle.rq_page.specs.Sizes.{IsCellAddress, IsLink, Sizes, cell_count, place_of}
 use Rattle.rq_bitset.specs.Flags.{flag_at, OthersStay}
@@ -46,7 +46,7 @@ loop-received-preserved g c =
           let walk = loop.walk (stored_before g.P.PageDevice c.args.pages.now c.loop-received.pages new linked.read.read stored) in
           walk_goes z q c.args.sender c.args.group.now c.args.met.now c.loop-received.met c.put.new.self c.loop-received.received before at next walk held stands (sym (ap (flag_at c.put.new.self) place) ∙ c.put.ensures.put)
           (subst (λ k. OthersStay k c.loop-received.met c.put.new.self) place c.put.ensures.others);
-      link = subst (λ (y : Sizes). IsLink y next) (loop.read.kept 0).sizes (some_told (λ n. IsLink c.loop-received.pages.sizes n) found next is linked.link);
+      link = subst (λ (y : Sizes). IsLink y next) (read.kept 0).sizes (some_told (λ n. IsLink new.sizes n) found next is linked.link);
       same = c.put.ensures.same ∙ loop.same;
       counted = linked.read.counted ∙ loop.counted;
       read = read;

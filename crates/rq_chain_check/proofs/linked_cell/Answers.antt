@@ -1,13 +1,8 @@
-use Rattle.std.proofs.Common.{◌<◌, ◌≤◌, ◌/◌, rules, subst, arith}
-use Rattle.rq_page.specs.Sizes.{IsCellAddress, IsLink, Sizes, page_count}
+use Rattle.std.proofs.Common.{◌<◌, ◌≤◌, ◌/◌, rules, arith}
+use Rattle.rq_page.specs.Sizes.{IsCellAddress, page_count}
 use Rattle.rq_pool.proofs.Fetched.{unfetched_reads}
 use Rattle.rq_chain_check.proofs.Stops.{unread}
 use Rattle.rq_chain_check.proofs.linked_cell.Goals as goal
-
-pub returns-then-eq-clause-link : goal.returns-then-eq-clause-link
-returns-then-eq-clause-link g c =
-    let next : IsLink c.read_cell.new.self.sizes c.in-Ok-Some.cell.next = search rules in
-    subst (λ (z : Sizes). IsLink z c.in-Ok-Some.cell.next) (c.read_cell.ensures.fetched.read.kept 0).sizes next
 
 pub returns-in-Err-clause-refused : goal.returns-in-Err-clause-refused
 returns-in-Err-clause-refused g c =
