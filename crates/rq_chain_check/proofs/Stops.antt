@@ -1,5 +1,5 @@
 -- What is read of pages on the way of a check, and why that stopped.
-use Rattle.std.proofs.Common.{◌≡◌, ℕ, ◌+◌, ◌%◌, ◌^◌, ◌<◌, ◌≤◌, List, Result, Ok, Err, inl, inr, sym, subst, ◌∙◌}
+use Rattle.std.proofs.Common.{◌≡◌, ℕ, ◌+◌, ◌%◌, ◌^◌, ◌<◌, ◌≤◌, List, Result, Ok, Err, inl, inr, refl, sym, subst, ◌∙◌}
 use Rattle.std.proofs.lemmas.Bool.{false≢true}
 use Rattle.rq_model.specs.declared.refusal.Refusal.{Refusal}
 use Rattle.rq_model.specs.declared.refusal.Refusal.TheVariants as why
@@ -9,7 +9,7 @@ use Rattle.rq_disk.specs.declared.device.PageDevice.{Ghosts}
 use Rattle.rq_page.specs.Sizes.{Sizes, page_count}
 use Rattle.rq_pool.specs.Held.{Held, IsFramed}
 use Rattle.rq_pool.specs.Pooled.{Pooled}
-use Rattle.rq_pool.specs.Fetching.{AreAllFramed, Fetches, HasFailed, HasReadFor, MayHaveRead, ReadFails}
+use Rattle.rq_pool.specs.Fetching.{AreAllFramed, Fetches, HasFailed, HasReadFor, MayHaveRead, ReadFails, ReadsTruly}
 use Rattle.rq_pool.proofs.Fetched.{read_then}
 use Rattle.rq_chain_check.specs.Stops.{ChecksNot, IsReadAsStored}
 
@@ -78,3 +78,14 @@ module _ {P : Type 0} (g : Ghosts P) where
   pub answers_on : {X : Type 0} (r : Result X Refusal) (old mid new : Pooled P) → MayHaveRead g old mid → g.faults mid.device ≡ g.faults old.device → HasReadFor g mid r new → HasReadFor g old r new
   answers_on (Ok x) old mid new read same f = reads_on x x old mid new read same f
   answers_on (Err e) old mid new read same f = stops_on e old mid new read same f
+
+  -- where each page stands in a frame, an answer stands on pages as they were
+  pub framed_truly : {X : Type 0} (x : X) (old new : Pooled P) → AreAllFramed old → ReadsTruly g old (Ok x) new
+  framed_truly x old new all = (inl all, λ e. cc)
+
+  -- and memory alone may be wanting
+  pub framed_stops : {X : Type 0} (e : Refusal) (old new : Pooled P) → AreAllFramed old → HasReadFor {X = X} g old (Err e) new → ChecksNot g old e new → e ≡ why.NoMemory
+  framed_stops why.NoMemory old new all f not = refl
+  framed_stops why.DiskRead old new all f not = let out = f.refused.0 in absurd (out.outside (all out.page out.behind out.within))
+  framed_stops (why.Damaged (damage.Page n)) old new all f not = absurd (not.1 (inl all))
+  framed_stops _ old new all f not = absurd not

@@ -271,16 +271,19 @@ fn finish_restart<P: PageDevice + Drop, L: LogDevice + Drop, B: Level>(
     }
 }
 
-// That the senders' chains are whole; else it is refused with the page to be named.
-fn check_links<P: PageDevice>(alloc: Global, pages: &Pages<P>) -> Result<(), Refusal>
-    ensures linked { OnOk result (AreLinked pages.now.sizes (slots_in pages.now.sizes pages.now.images)) }
-    ensures stops { IfErr result (λ e. LinkStops pages.now.sizes (slots_in pages.now.sizes pages.now.images) e) }
-    ensures pool { IsPool pages.now.sizes pages.now.images }
+// That the senders' chains are whole; else it is refused with the page to be named. No page is read, as each stands in a frame.
+fn check_links<P: PageDevice>(alloc: Global, pages: &mut Pages<P>) -> Result<(), Refusal>
+    ensures linked { OnOk result (AreLinked pages.old.sizes (slots_in pages.old.sizes pages.old.images)) }
+    ensures stops { IfErr result (λ e. LinkStops pages.old.sizes (slots_in pages.old.sizes pages.old.images) e) }
+    ensures pool { IsPool pages.old.sizes pages.old.images }
+    ensures same { pages.new ≡ pages.old }
 {
     shows_pool(pages);
-    match first_broken(alloc, pages)? {
-        Some(page) => Err(Refusal::Damaged(Damage::Page(page))),
-        None => Ok(()),
+    pages.shows_framed();
+    match first_broken(alloc, pages) {
+        Ok(Some(page)) => Err(Refusal::Damaged(Damage::Page(page))),
+        Ok(None) => Ok(()),
+        Err(refusal) => Err(refusal),
     }
 }
 

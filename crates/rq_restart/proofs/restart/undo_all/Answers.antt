@@ -1,12 +1,14 @@
-use Rattle.rq_restart.specs.Undoing.{FailsWith}
+use Rattle.rq_restart.specs.Undoing.{FailsWith, HandsOverNothing}
 use Rattle.rq_views.specs.Stored.{slots_in}
 use Rattle.std.proofs.Common.{◌≡◌, rules, subst, ap, sym, ◌∙◌, length}
-use Rattle.rq_pool.specs.Pooled.{IsPool}
+use Rattle.rq_pool.specs.Pooled.{IsPool, Pooled}
+use Rattle.rq_planner.specs.Answered.{KnowsCells}
 use Rattle.rq_chain_check.specs.Links.{AreLinked}
 use Rattle.rq_restart.specs.Aborting.{AbortingStops}
 use Rattle.rq_restart.specs.RolledBack.{IsRolledBackSince, LinkStops, RollbackStops}
 use Rattle.rq_restart.specs.Repeating.{ArePagesCounted, Paged, Repeats, paged, slots_on}
 use Rattle.rq_restart.proofs.Linking.{link_fails, unlinked_stops}
+use Rattle.rq_restart.proofs.Undos.{and_then}
 use Rattle.rq_restart.proofs.RollingBack.{abort_rolls_nothing_back, rolled_back_since, undo_rolls_nothing_back}
 use Rattle.rq_restart.proofs.restart.undo_all.Goals as goal
 
@@ -15,18 +17,29 @@ returns-in-Ok-clause-rolls_back g c = λ k.
     let undo = c.in_ok-undo_unfinished.ensures in
     let abort = c.in_ok-abort_lost.ensures in
     let ku = abort.stays.read.honest k in
-    rolled_back_since c.args.pages.now.sizes c.args.log.now.records c.undo_unfinished.new.log.records c.abort_lost.new.log.records c.args.pages.now c.undo_unfinished.new.pages c.abort_lost.new.pages undo.stays.sizes (undo.undone ku) undo.pool (undo.repeated ku) (abort.gone_on k) abort.ended (λ e. (abort.none e).0)
+    subst (λ (p : Pooled _). IsRolledBackSince c.args.pages.now.sizes c.args.log.now.records c.abort_lost.new.log.records (paged c.args.pages.now) (paged p)) (sym c.check_links.ensures.same)
+    (rolled_back_since c.args.pages.now.sizes c.args.log.now.records c.undo_unfinished.new.log.records c.abort_lost.new.log.records c.args.pages.now c.undo_unfinished.new.pages c.abort_lost.new.pages undo.stays.sizes (undo.undone ku) undo.pool (undo.repeated ku) (abort.gone_on k) abort.ended (λ e. (abort.none e).0))
 
 pub returns-in-Ok-clause-counted : goal.returns-in-Ok-clause-counted
 returns-in-Ok-clause-counted g c = λ before.
     let undo = c.in_ok-undo_unfinished.ensures in
     let abort = c.in_ok-abort_lost.ensures in
-    subst (λ y. ArePagesCounted y (length c.abort_lost.new.log.records) (paged c.abort_lost.new.pages)) undo.stays.sizes
-    (abort.counted (subst (λ y. ArePagesCounted y (length c.undo_unfinished.new.log.records) (paged c.undo_unfinished.new.pages)) (sym undo.stays.sizes) (undo.counted before)))
+    subst (λ (p : Pooled _). ArePagesCounted c.args.pages.now.sizes (length c.abort_lost.new.log.records) (paged p)) (sym c.check_links.ensures.same)
+    (subst (λ y. ArePagesCounted y (length c.abort_lost.new.log.records) (paged c.abort_lost.new.pages)) undo.stays.sizes
+    (abort.counted (subst (λ y. ArePagesCounted y (length c.undo_unfinished.new.log.records) (paged c.undo_unfinished.new.pages)) (sym undo.stays.sizes) (undo.counted before))))
 
 pub returns-in-Ok-clause-linked : goal.returns-in-Ok-clause-linked
 returns-in-Ok-clause-linked g c =
-    subst (λ y. AreLinked y (slots_on y (paged c.abort_lost.new.pages))) (c.in_ok-abort_lost.ensures.stays.sizes ∙ c.in_ok-undo_unfinished.ensures.stays.sizes) c.in-Ok.ensures.linked
+    subst (λ (p : Pooled _). AreLinked c.args.pages.now.sizes (slots_on c.args.pages.now.sizes (paged p))) (sym c.check_links.ensures.same)
+    (subst (λ y. AreLinked y (slots_on y (paged c.abort_lost.new.pages))) (c.in_ok-abort_lost.ensures.stays.sizes ∙ c.in_ok-undo_unfinished.ensures.stays.sizes) c.in-Ok.ensures.linked)
+
+pub returns-in-Ok-clause-known : goal.returns-in-Ok-clause-known
+returns-in-Ok-clause-known g c = subst (λ (p : Pooled _). KnowsCells p.sizes p.images c.abort_lost.new.planner) (sym c.check_links.ensures.same) c.in_ok-abort_lost.ensures.cells
+
+pub returns-in-Ok-clause-stays : goal.returns-in-Ok-clause-stays
+returns-in-Ok-clause-stays g c =
+    subst (λ (p : Pooled _). HandsOverNothing g.L.LogDevice c.args.pages.now p c.args.log.now c.abort_lost.new.log) (sym c.check_links.ensures.same)
+    (and_then c.in_ok-undo_unfinished.ensures.stays c.in_ok-abort_lost.ensures.stays)
 
 pub returns-in-Ok-clause-lost : goal.returns-in-Ok-clause-lost
 returns-in-Ok-clause-lost g c = ap length c.active.ensures
@@ -83,3 +96,8 @@ returns-in-Err-clause-fails g c =
     let new = c.abort_lost.new.pages in
     let h : FailsWith e (faults c.args.log.now.device) (faults c.abort_lost.new.log.device) = link_fails new.sizes (slots_in new.sizes new.images) e (faults c.args.log.now.device) (faults c.abort_lost.new.log.device) same c.in-Err.ensures.stops in
     h
+
+pub returns-in-Err-clause-stays : goal.returns-in-Err-clause-stays
+returns-in-Err-clause-stays g c =
+    subst (λ (p : Pooled _). HandsOverNothing g.L.LogDevice c.args.pages.now p c.args.log.now c.abort_lost.new.log) (sym c.check_links.ensures.same)
+    (and_then c.in_ok-undo_unfinished.ensures.stays c.in_ok-abort_lost.ensures.stays)
