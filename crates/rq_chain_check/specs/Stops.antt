@@ -12,8 +12,8 @@ use Rattle.rq_pool.specs.Fetching.{AreAllFramed}
 abbrev pub IsReadAsStored : {P : Type 0} → Ghosts P → Pooled P → Pooled P → Type 0
 IsReadAsStored g old new = AreAllFramed old ⊎ g.honest new.device
 
--- Why chains were not checked, whatever the device is: memory was wanting, or a page was not read. One that is damaged is a page of
--- the store, and was not given as the store's.
+-- Why chains were not checked, whatever the device is: memory was wanting, or a page was not read. One that is told as damaged is a
+-- page of the store. Some page then stood in no frame, and the device is not honest.
 abbrev pub ChecksNot : {P : Type 0} → Ghosts P → Pooled P → Refusal → Pooled P → Type 0
 ChecksNot g old why.NoMemory new = Unit {0}
 ChecksNot g old why.DiskRead new = Unit {0}

@@ -1,7 +1,7 @@
 -- The page that is named for chains that are not whole is one.
 use Rattle.std.proofs.Common.{◌≡◌, ℕ, List, refl, sym, ap, subst, Option, Some, None, Result, Ok, Err}
 use Rattle.std.specs.Prelude.{IfNone, IfOk, IfSome}
-use Rattle.rq_model.specs.declared.refusal.NoMemory.{NoMemory}
+use Rattle.rq_model.specs.declared.refusal.Refusal.{Refusal}
 use Rattle.rq_page.specs.Sizes.{Sizes}
 use Rattle.rq_views.specs.Stored.{slots_in}
 use Rattle.rq_chain_check.specs.Links.{AreLinked, IsFault}
@@ -21,7 +21,7 @@ named_there : (z y : Sizes) (images others : List (List ℕ)) (a b : Option ℕ)
 named_there z y images others a b e i f g =
     named_one z images a b f (subst (λ (w : Sizes). Names w images b) (sym e) (subst (λ (l : List (List ℕ)). Names y l b) (sym i) g))
 
-pub named_alike : (z y : Sizes) (images others : List (List ℕ)) (a b : Result (Option ℕ) NoMemory) → z ≡ y → images ≡ others
+pub named_alike : (z y : Sizes) (images others : List (List ℕ)) (a b : Result (Option ℕ) Refusal) → z ≡ y → images ≡ others
     → IfOk a (λ o. IfNone o (AreLinked z (slots_in z images))) → IfOk a (λ o. IfSome o (λ page. IsFault z (slots_in z images) page))
     → IfOk b (λ o. IfNone o (AreLinked y (slots_in y others))) → IfOk b (λ o. IfSome o (λ page. IsFault y (slots_in y others) page))
     → IfOk a (λ p. IfOk b (λ q. p ≡ q))
