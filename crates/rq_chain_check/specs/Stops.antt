@@ -1,16 +1,12 @@
--- What is read of pages while chains are followed, and why that stopped.
-use Rattle.std.specs.Prelude.{◌⊎◌, ◌<◌}
+-- Why chains were not checked.
+use Rattle.std.specs.Prelude.{◌<◌}
 use Rattle.rq_model.specs.declared.refusal.Refusal.{Refusal}
 use Rattle.rq_model.specs.declared.refusal.Refusal.TheVariants as why
 use Rattle.rq_model.specs.declared.refusal.Damage.TheVariants as damage
 use Rattle.rq_disk.specs.declared.device.PageDevice.{Ghosts}
 use Rattle.rq_page.specs.Sizes.{page_count}
 use Rattle.rq_pool.specs.Pooled.{Pooled}
-use Rattle.rq_pool.specs.Fetching.{AreAllFramed}
-
--- each page that was read is the store's: the device is honest, or none had to be read
-abbrev pub IsReadAsStored : {P : Type 0} → Ghosts P → Pooled P → Pooled P → Type 0
-IsReadAsStored g old new = AreAllFramed old ⊎ g.honest new.device
+use Rattle.rq_pool.specs.Fetching.{IsReadAsStored}
 
 -- Why chains were not checked, whatever the device is: memory was wanting, or a page was not read. One that is told as damaged is a
 -- page of the store. Some page then stood in no frame, and the device is not honest.

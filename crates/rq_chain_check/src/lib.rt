@@ -9,10 +9,10 @@ ghost use Rattle.rq_page.specs.Slots.{Sender};
 ghost use Rattle.rq_views.specs.Chain.{Node};
 ghost use Rattle.rq_views.specs.Log.{cells_of};
 ghost use Rattle.rq_views.specs.Stored.{slots_in};
-ghost use Rattle.rq_pool.specs.Fetching.{HasReadFor, ReadsTruly};
+ghost use Rattle.rq_pool.specs.Fetching.{HasReadFor, IsReadAsStored, ReadsTruly};
 ghost use Rattle.rq_chain_check.specs.Follows.{AreFollowed, EndsSo, IsFollowed, IsLinkedCell, IsNextFree};
 ghost use Rattle.rq_chain_check.specs.Links.{AreLinked, IsChain, IsFault, IsFirstBroken, IsFirstUnmet};
-ghost use Rattle.rq_chain_check.specs.Stops.{ChecksNot, IsReadAsStored};
+ghost use Rattle.rq_chain_check.specs.Stops.{ChecksNot};
 ghost use Rattle.rq_chain_check.specs.Theorems.{FaultsAreExact, SoundStoresAreLinked};
 
 use rq_bitset::Index;

@@ -1,5 +1,5 @@
 -- Why reading pages stopped.
-use Rattle.std.proofs.Common.{◌≡◌, ℕ, ◌+◌, ◌%◌, ◌^◌, ◌<◌, ◌≤◌, ◌/◌, List, Result, Ok, Err, IfErr, refl, sym, subst, arith, ◌∙◌, inl}
+use Rattle.std.proofs.Common.{◌≡◌, ℕ, ◌+◌, ◌%◌, ◌^◌, ◌<◌, ◌≤◌, ◌/◌, List, Result, Ok, Err, IfErr, refl, sym, subst, arith, ◌∙◌, inl, inr}
 use Rattle.std.proofs.lemmas.Bool.{false≢true}
 use Rattle.rq_model.specs.declared.refusal.Refusal.{Refusal}
 use Rattle.rq_model.specs.declared.refusal.Refusal.TheVariants.{NoMemory, DiskRead, Damaged}
@@ -11,13 +11,13 @@ use Rattle.rq_page.proofs.Addresses.{senders_have_slots}
 use Rattle.rq_pool.specs.Held.{Held, IsFramed}
 use Rattle.rq_pool.specs.Pooled.{Pooled}
 use Rattle.rq_pool.specs.Fetching.{Fetches, HasFailed, MayHaveRead}
-use Rattle.rq_pool.proofs.Fetched.{still_read}
+use Rattle.rq_pool.proofs.Fetched.{fails_then, over_stored, still_read}
 use Rattle.rq_content.specs.Read.{damaged_for, ReadStops}
 
 module _ {P : Type 0} (g : Ghosts P) where
   -- what is so of pages that were read was so before, where their device is honest
   pub over_read : (B : Sizes → List (List ℕ) → Type 0) (old new : Pooled P) → MayHaveRead g old new → g.honest new.device → B new.sizes new.images → B old.sizes old.images
-  over_read B old new read h b = subst (λ (z : Sizes). B z old.images) (read.kept 0).sizes (subst (λ (i : List (List ℕ)). B new.sizes i) ((read.kept 0).images h) b)
+  over_read B old new read h b = over_stored g B old new read (inr h) b
 
   -- a page could not be read
   pub unread : {X : Type 0} (Broken : Refusal → Type 0) (page : ℕ) (e : Refusal) (old new : Pooled P) → 1 ≤ page → page < page_count old.sizes → Fetches {X = X} g page old (Err e) new → ReadStops g Broken old e new
@@ -31,27 +31,10 @@ module _ {P : Type 0} (g : Ghosts P) where
       let within : directory_at s / 16 < page_count old.sizes = (let below = (senders_have_slots old.sizes s lt).1 in omega (arith, below)) in
       subst (λ (r : Refusal). ReadStops g Broken old r new) (sym is) (within, λ h. subst Broken is (broken h), same)
 
-  -- a device that had not failed has failed since
-  failed_then : {ask : PageAsk} (mid old new : P) → g.faults mid ≡ g.faults old → HasFailed g ask mid new → HasFailed g ask old new
-  failed_then mid old new same f = record {
-    once = subst (λ (n : ℕ). g.faults new ≡ (n + 1) % 2 ^ 64) same f.once;
-    before = f.before;
-    none = f.none ∙ same;
-    excused = f.excused;
-  }
-
   -- some pages were read, and then reading stopped
   pub stopped_then : (Later Broken : Refusal → Type 0) (e : Refusal) (old mid new : Pooled P) → MayHaveRead g old mid → g.faults mid.device ≡ g.faults old.device → (g.honest new.device → (r : Refusal) → Later r → Broken r) → ReadStops g Later mid e new → ReadStops g Broken old e new
   stopped_then Later Broken NoMemory old mid new read same over stops = stops ∙ same
-  stopped_then Later Broken DiskRead old mid new read same over stops = (
-    record {
-      page = stops.0.page;
-      behind = stops.0.behind;
-      within = subst (λ (z : Sizes). stops.0.page < page_count z) (read.kept 0).sizes stops.0.within;
-      outside = λ framed. stops.0.outside (subst (λ (f : List Held). IsFramed f stops.0.page) (sym read.frames) framed);
-    },
-    failed_then mid.device old.device new.device same stops.1,
-  )
+  stopped_then Later Broken DiskRead old mid new read same over stops = fails_then g DiskRead old mid new read same stops
   stopped_then Later Broken (Damaged (Page n)) old mid new read same over stops =
       (subst (λ (z : Sizes). n < page_count z) (read.kept 0).sizes stops.0, λ h. over h (Damaged (Page n)) (stops.1 h), stops.2 ∙ same)
   stopped_then Later Broken _ old mid new read same over stops = absurd stops

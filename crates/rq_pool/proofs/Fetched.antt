@@ -1,16 +1,17 @@
 -- Pages that all stand in frames, and pages that were read again one after the other.
-use Rattle.std.proofs.Common.{Bool, false, [], ◌∷◌, ◌++◌, slice_index_or, slice_set, ◌≡◌, ℕ, zero, suc, ◌+◌, ◌<◌, ◌≤◌, List, length, refl, sym, ap, subst, arith, ◌∙◌, inl, Ok, Err}
+use Rattle.std.proofs.Common.{Bool, false, [], ◌∷◌, ◌++◌, slice_index_or, slice_set, ◌≡◌, ℕ, zero, suc, ◌+◌, ◌%◌, ◌^◌, ◌⊎◌, ◌<◌, ◌≤◌, List, Result, length, refl, sym, ap, subst, arith, ◌∙◌, inl, inr, Ok, Err, ⊎_elim}
 use Rattle.std.proofs.lemmas.Bool.{false≢true, true≢false}
 use Rattle.rq_model.specs.declared.refusal.Damage.TheVariants as damage
 use Rattle.rq_model.specs.declared.refusal.Refusal.{Refusal}
 use Rattle.rq_model.specs.declared.refusal.Refusal.TheVariants as why
-use Rattle.rq_page.specs.Sizes.{page_count}
+use Rattle.rq_page.specs.Sizes.{Sizes, page_count}
+use Rattle.rq_disk.specs.Device.{PageAsk}
 use Rattle.rq_disk.specs.declared.device.PageDevice.{Ghosts}
 use Rattle.rq_pool.specs.Pooled.{Pooled}
 use Rattle.rq_pool.specs.Held.{Held, IsFixed, IsFramed, IsSetAt, fixed_at, page_at}
 use Rattle.rq_pool.specs.Frames.{IsFirstFixed, in_order}
 use Rattle.rq_pool.specs.Reading.{OnlyRead}
-use Rattle.rq_pool.specs.Fetching.{AreAllFramed, Fetches, HasReadFor, IsAtHand, MayHaveRead, NotFetched, ReadFails}
+use Rattle.rq_pool.specs.Fetching.{AreAllFramed, Fetches, HasFailed, HasOutside, HasReadFor, IsAtHand, IsReadAsStored, MayHaveRead, NotFetched, ReadFails}
 use Rattle.rq_pool.proofs.KeptUp.{kept_still, kept_then}
 use Rattle.rq_pool.proofs.Readings.{only_read_on}
 
@@ -132,3 +133,56 @@ module _ {P : Type 0} (g : Ghosts P) where
   -- nothing was
   pub reads_none : {X : Type 0} (old new : Pooled P) (x : X) → new ≡ old → HasReadFor g old (Ok x) new
   reads_none old new x same = subst (λ (s : Pooled P). HasReadFor g old (Ok x) s) (sym same) (record { read = still_read old; counted = refl; refused = tt })
+
+  -- ---- pages that were read as they are stored
+
+  pub stored_images : (old new : Pooled P) → MayHaveRead g old new → IsReadAsStored g old new → new.images ≡ old.images
+  stored_images old new read stored = ⊎_elim (λ all. ap (λ (p : Pooled P). p.images) (read.stood all)) (λ h. (read.kept 0).images h) stored
+
+  -- what is so of them as they were read is so of the store
+  pub over_stored : (B : Sizes → List (List ℕ) → Type 0) (old new : Pooled P) → MayHaveRead g old new → IsReadAsStored g old new → B new.sizes new.images → B old.sizes old.images
+  over_stored B old new read stored b = subst (λ (z : Sizes). B z old.images) (read.kept 0).sizes (subst (λ (i : List (List ℕ)). B new.sizes i) (stored_images old new read stored) b)
+
+  -- each was the store's up to a moment in between
+  pub stored_before : (old mid new : Pooled P) → MayHaveRead g mid new → IsReadAsStored g old new → IsReadAsStored g old mid
+  stored_before old mid new read stored = ⊎_elim (λ all. inl all) (λ h. inr (read.device.honest h)) stored
+
+  -- and from there on
+  pub stored_after : (old mid new : Pooled P) → MayHaveRead g old mid → IsReadAsStored g old new → IsReadAsStored g mid new
+  stored_after old mid new read stored = ⊎_elim (λ all. inl (subst (λ (p : Pooled P). AreAllFramed p) (sym (read.stood all)) all)) (λ h. inr h) stored
+
+  -- ---- some pages were read, and then some on the way of a call
+
+  -- a device that had not failed has failed since
+  failed_then : {ask : PageAsk} (mid old new : P) → g.faults mid ≡ g.faults old → HasFailed g ask mid new → HasFailed g ask old new
+  failed_then mid old new same f = record {
+    once = subst (λ (n : ℕ). g.faults new ≡ (n + 1) % 2 ^ 64) same f.once;
+    before = f.before;
+    none = f.none ∙ same;
+    excused = f.excused;
+  }
+
+  -- a page that stands in no frame stood in none
+  outside_then : (old mid : Pooled P) → MayHaveRead g old mid → HasOutside mid → HasOutside old
+  outside_then old mid read out = record {
+    page = out.page;
+    behind = out.behind;
+    within = subst (λ (z : Sizes). out.page < page_count z) (read.kept 0).sizes out.within;
+    outside = λ framed. out.outside (subst (λ (l : List Held). IsFramed l out.page) (sym read.frames) framed);
+  }
+
+  pub fails_then : (e : Refusal) (old mid new : Pooled P) → MayHaveRead g old mid → g.faults mid.device ≡ g.faults old.device → ReadFails g e mid new → ReadFails g e old new
+  unfolding outside_then
+  fails_then why.DiskRead old mid new read same fails = (outside_then old mid read fails.0, failed_then mid.device old.device new.device same fails.1)
+  fails_then _ old mid new read same fails = fails ∙ same
+
+  -- the call answers something else then, or passes a refusal on
+  pub reads_on : {X Y : Type 0} (x : X) (y : Y) (old mid new : Pooled P) → MayHaveRead g old mid → g.faults mid.device ≡ g.faults old.device → HasReadFor g mid (Ok x) new → HasReadFor g old (Ok y) new
+  reads_on x y old mid new read same f = record { read = read_then old mid new read f.read; counted = f.counted ∙ same; refused = tt }
+
+  pub stops_on : {X Y : Type 0} (e : Refusal) (old mid new : Pooled P) → MayHaveRead g old mid → g.faults mid.device ≡ g.faults old.device → HasReadFor {X = X} g mid (Err e) new → HasReadFor {X = Y} g old (Err e) new
+  stops_on e old mid new read same f = record { read = read_then old mid new read f.read; counted = tt; refused = fails_then e old mid new read same f.refused }
+
+  pub reads_then : {X : Type 0} (r : Result X Refusal) (old mid new : Pooled P) → MayHaveRead g old mid → g.faults mid.device ≡ g.faults old.device → HasReadFor g mid r new → HasReadFor g old r new
+  reads_then (Ok x) old mid new read same f = reads_on x x old mid new read same f
+  reads_then (Err e) old mid new read same f = stops_on e old mid new read same f

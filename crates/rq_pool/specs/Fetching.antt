@@ -78,6 +78,10 @@ pub record HasReadFor {P X : Type 0} (g : Ghosts P) (old : Pooled P) (result : R
   pub counted : OnOk result (g.faults new.device ≡ g.faults old.device)
   pub refused : IfErr result (λ e. ReadFails g e old new)
 
--- Each page that it read was the store's, and was read: the device is honest, or none had to be read, and no read failed.
+-- each page that was read is the store's: the device is honest, or none had to be read
+abbrev pub IsReadAsStored : {P : Type 0} → Ghosts P → Pooled P → Pooled P → Type 0
+IsReadAsStored g old new = AreAllFramed old ⊎ g.honest new.device
+
+-- And each that had to be read was.
 abbrev pub ReadsTruly : {P X : Type 0} → Ghosts P → Pooled P → Result X Refusal → Pooled P → Type 0
-ReadsTruly g old result new = (AreAllFramed old ⊎ g.honest new.device) × (result ≡ Err why.DiskRead → ⊥)
+ReadsTruly g old result new = IsReadAsStored g old new × (result ≡ Err why.DiskRead → ⊥)

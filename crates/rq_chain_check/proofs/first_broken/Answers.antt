@@ -6,7 +6,7 @@ use Rattle.rq_views.specs.Stored.{slots_in}
 use Rattle.rq_chain_check.specs.Follows.{AreFollowed}
 use Rattle.rq_chain_check.specs.Links.{AreLinked, IsFirstUnmet}
 use Rattle.rq_chain_check.proofs.Options.{none_told}
-use Rattle.rq_chain_check.proofs.Stops.{over_stored}
+use Rattle.rq_pool.proofs.Fetched.{over_stored}
 use Rattle.rq_chain_check.proofs.first_broken.Goals as goal
 
 pub returns-in-Ok-None-clause-whole : goal.returns-in-Ok-None-clause-whole

@@ -7,7 +7,8 @@ use Rattle.rq_pool.proofs.Fetched.{read_then, still_read}
 use Rattle.rq_chain_check.specs.Follows.{IsFollowed}
 use Rattle.rq_chain_check.specs.Links.{IsChain}
 use Rattle.rq_chain_check.proofs.Followed.{followed_none, followed_more}
-use Rattle.rq_chain_check.proofs.Stops.{over_stored, reads_on, stops_on, stored_after, stored_before, unread_later}
+use Rattle.rq_pool.proofs.Fetched.{over_stored, reads_on, stops_on, stored_after, stored_before}
+use Rattle.rq_chain_check.proofs.Stops.{unread_later}
 use Rattle.rq_chain_check.proofs.first_unlinked.Goals as goal
 
 pub loop-sender-init : goal.loop-sender-init

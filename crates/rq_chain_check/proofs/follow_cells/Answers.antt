@@ -7,7 +7,8 @@ use Rattle.rq_views.specs.Stored.{slots_in}
 use Rattle.rq_pool.proofs.Fetched.{read_then}
 use Rattle.rq_chain_check.specs.Follows.{IsLinkedCell}
 use Rattle.rq_chain_check.proofs.Options.{none_told, some_told}
-use Rattle.rq_chain_check.proofs.Stops.{over_stored, reads_on, stops_on, stored_before, unread_later}
+use Rattle.rq_pool.proofs.Fetched.{over_stored, reads_on, stops_on, stored_before}
+use Rattle.rq_chain_check.proofs.Stops.{unread_later}
 use Rattle.rq_chain_check.proofs.Walks.{walk_goes, walk_stops, ends_whole, ends_broken}
 use Rattle.rq_chain_check.proofs.follow_cells.Goals as goal
 

@@ -2,7 +2,7 @@ use Rattle.std.proofs.Common.{◌≡◌, length}
 use Rattle.rq_page.specs.Sizes.{IsLink}
 use Rattle.rq_pool.specs.Fetching.{MayHaveRead}
 use Rattle.rq_views.specs.Stored.{slots_in}
-use Rattle.rq_chain_check.specs.Stops.{IsReadAsStored}
+use Rattle.rq_pool.specs.Fetching.{IsReadAsStored}
 use Rattle.rq_chain_check.proofs.Walks.{IsWalk}
 use Rattle.rq_chain_check.proofs.follow_cells.Given as goal
 
