@@ -10,6 +10,7 @@ use Rattle.rq_model.proofs.Deeds.{told_by_its_level}
 use Rattle.rq_model.specs.declared.record.Record.{Record}
 use Rattle.rq_model.specs.declared.record.Record.TheVariants.{OpEnd}
 use Rattle.rq_model.specs.declared.txn.Txn.{Txn}
+use Rattle.rq_model.specs.Vocabulary.{is_some}
 use Rattle.rq_page.specs.declared.cell.Cell.{Cell}
 use Rattle.rq_page.specs.Sizes.{Sizes, IsCellAddress, client_count, client_slot_at, directory_at, place_of, sender_count}
 use Rattle.rq_page.specs.Slots.Slot.{Free, Used, Sender}
@@ -44,7 +45,8 @@ use Rattle.rq_planner.proofs.Gathered.{given_to}
 use Rattle.rq_planner.proofs.Knowing.{cells_known}
 use Rattle.rq_planner.proofs.Replies.{HasGatheredFor, from_wanted, of_undo, wants_undo}
 use Rattle.rq_planner.proofs.Tags.{planned_below, tags_know, unmark_judged}
-use Rattle.rq_planner.specs.Backs.{CanBeTakenBack, IsJudgedBack, IsShut, IsTakingBack, SentLast, TakenLast}
+use Rattle.rq_planner.specs.Backs.{CanBeTakenBack, IsJudgedBack, IsRefusedBack, IsShut, IsTakingBack, SentLast, TakenLast}
+use Rattle.rq_planner.specs.Lawful.{MayRefuse, unlatched_refusal}
 
 -- ---- what was given of slots that hold it
 
@@ -263,3 +265,12 @@ module _ (z : Sizes) (images : List (List ℕ)) (rows : List Row) (none : rows �
 
   pub not_held_up : (d : Deed) → IsHeldUp (known z images rows) (Undo d) → CanBeTakenBack z (slots_in z images) d → ⊥
   not_held_up d held can = never_latched z (slots_in z images) d can (subst (λ (rs : List Row). InverseIsLatched z (slots_in z images) rs d) none held)
+
+-- why there is no plan
+pub refused_back : (z : Sizes) (q : Slots) (told : Option Deed) (e : Refusal) → is_some told ≡ true → MayRefuse e → (e ≡ why.DiskRead → ⊥) → ((d : Deed) → told ≡ Some d → TellsDamage e → CanBeTakenBack z q d → ⊥)
+    → ((d : Deed) → told ≡ Some d → e ≡ why.Latched → CanBeTakenBack z q d → ⊥) → IsRefusedBack z q told (unlatched_refusal e)
+refused_back z q told why.NoMemory some may read damaged latched = some
+refused_back z q told why.Latched some may read damaged latched = λ d is can. latched d is refl can
+refused_back z q told (why.Damaged x) some may read damaged latched = λ d is can. damaged d is tt can
+refused_back z q told why.DiskRead some may read damaged latched = absurd (read refl)
+refused_back z q told _ some may read damaged latched = absurd may

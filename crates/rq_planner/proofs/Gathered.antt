@@ -1,15 +1,18 @@
 -- The slots that a level wants are gathered, and come to an end.
 use Rattle.std.proofs.Common.{◌≡◌, ℕ, ◌-◌, ◌/◌, ◌%◌, ◌<◌, ◌++◌, List, [], ◌∷◌, false, length, Option, Some, None, Result, Ok, Err, refl, sym, ◌∙◌, ap, subst, inl, inr, arith}
 use Rattle.std.proofs.lemmas.List.{append_assoc, append-nil, length-append}
+use Rattle.std.proofs.lemmas.List.Elements.{All-append, All-cons}
 use Rattle.rq_model.specs.declared.refusal.Refusal.{Refusal}
 use Rattle.rq_model.specs.declared.refusal.Refusal.TheVariants as why
+use Rattle.rq_page.specs.Sizes.{Sizes}
 use Rattle.rq_page.specs.Slots.{IsSlotOf, held_in}
-use Rattle.rq_views.specs.Stored.{IsStoreSlot}
+use Rattle.rq_views.specs.Stored.{IsStoreSlot, slot_at}
 use Rattle.rq_level.specs.declared.level.Want.{Want}
 use Rattle.rq_level.specs.declared.level.Want.TheVariants as wants
 use Rattle.rq_level.specs.declared.slots.Given.{Given}
 use Rattle.rq_level.specs.declared.writes.Plan.{Plan}
 use Rattle.rq_level.specs.Asked.{AreWanted}
+use Rattle.rq_level.specs.Given.{AreGiven, IsGiven}
 use Rattle.rq_level.specs.LevelState.{LevelState}
 use Rattle.rq_level.specs.Meaning.{kept_at, wish}
 use Rattle.rq_level.specs.Ops.{Job}
@@ -19,7 +22,8 @@ use Rattle.rq_txn.specs.Rows.{latched_in}
 use Rattle.rq_sound.specs.Gathering.{with_slot}
 use Rattle.rq_sound.specs.Groups.{slots_now}
 use Rattle.rq_sound.proofs.Gathering.{slots_gathered}
-use Rattle.rq_planner.specs.Answered.{ComesFrom, HasGathered, IsAnswered, IsWithheld, Wants, wants_of}
+use Rattle.rq_planner.specs.Answered.{ComesFrom, HasGathered, IsAnswered, IsGivenMore, IsWithheld, Wants, wants_of}
+use Rattle.rq_planner.proofs.Told.{slot_is}
 
 -- ---- what is wanted
 
@@ -36,7 +40,7 @@ more_wanted want front (f ∷ given) g w e = (w.0, more_wanted want (front ++ f 
 pub none_gathered : (s : State) (want : Wants) (job : Job) → HasGathered s want job []
 none_gathered s want job = record { wanted = tt; from = slots_gathered.none_given s; gathered = slots_gathered.none_gathered s }
 
-pub one_more : (s : State) (want : Wants) (job : Job) (given now : List Given) (a : ℕ) (bytes : List ℕ) → now ≡ with_slot given a bytes → want job given ≡ Some a → HasGathered s want job given → IsStoreSlot s.sizes a → IsSlotOf s.sizes (a / 16) (a % 16) bytes
+one_more : (s : State) (want : Wants) (job : Job) (given now : List Given) (a : ℕ) (bytes : List ℕ) → now ≡ with_slot given a bytes → want job given ≡ Some a → HasGathered s want job given → IsStoreSlot s.sizes a → IsSlotOf s.sizes (a / 16) (a % 16) bytes
     → slots_now s a ≡ held_in s.sizes (a / 16) bytes → latched_in s.rows (a / 16) ≡ false → HasGathered s want job now
 one_more s want job given now a bytes e next h stands slot is off = subst (HasGathered s want job) (sym e) (record {
   wanted = more_wanted (want job) [] given (record { at = a; bytes = bytes }) h.wanted next;
@@ -44,11 +48,26 @@ one_more s want job given now a bytes e next h stands slot is off = subst (HasGa
   gathered = slots_gathered.one_gathered s given a bytes h.gathered is off;
 })
 
+-- one more slot of the store was given
+pub given_more : (z : Sizes) (images : List (List ℕ)) (a : ℕ) (given now : List Given) → AreGiven z given → IsGivenMore z images a given now → AreGiven z now
+given_more z images a given now h m =
+    let one : Given = record { at = a; bytes = slot_at images a } in
+    subst (AreGiven z) (sym m.more) (All-append (IsGiven z) given (one ∷ []) h (All-cons (IsGiven z) one [] (record { place = m.place; bytes = m.slot }) (λ k d lt. absurd (omega (arith, lt)))))
+
+-- it was wanted
+pub wanted_more : (want : List Given → Option ℕ) (z : Sizes) (images : List (List ℕ)) (a : ℕ) (given now : List Given) → AreWanted want [] given → want given ≡ Some a → IsGivenMore z images a given now → AreWanted want [] now
+wanted_more want z images a given now h next m = subst (AreWanted want []) (sym m.more) (more_wanted want [] given (record { at = a; bytes = slot_at images a }) h next)
+
+-- and is as it is, of a page that nobody has latched
+pub gathered_more : (s : State) (want : Wants) (job : Job) (a : ℕ) (given now : List Given) → want job given ≡ Some a → HasGathered s want job given → IsGivenMore s.sizes s.images a given now → latched_in s.rows (a / 16) ≡ false → HasGathered s want job now
+gathered_more s want job a given now next h m off =
+    one_more s want job given now a (slot_at s.images a) m.more next h m.place m.slot (slot_is s.sizes s.images a m.place) off
+
 -- no level asks for more than three
-pub fewer_left : (s : State) (levels : List LevelState) (n : ℕ) (job : Job) (given now : List Given) (a : ℕ) (bytes : List ℕ) → now ≡ with_slot given a bytes → HasGathered s (wants_of levels n) job now → 4 - length now < 4 - length given
-fewer_left s levels n job given now a bytes e h =
-    let few = (all_lawful n).few (kept_at levels n).sizes job now h.wanted in
-    let more = ap length e ∙ length-append given (record { at = a; bytes = bytes } ∷ []) in
+pub fewer_left : (levels : List LevelState) (n : ℕ) (job : Job) (z : Sizes) (images : List (List ℕ)) (a : ℕ) (given now : List Given) → IsGivenMore z images a given now → AreWanted (wants_of levels n job) [] now → 4 - length now < 4 - length given
+fewer_left levels n job z images a given now m wanted =
+    let few = (all_lawful n).few (kept_at levels n).sizes job now wanted in
+    let more = ap length m.more ∙ length-append given (record { at = a; bytes = slot_at images a } ∷ []) in
     omega (arith, few, more)
 
 -- ---- answers

@@ -1,89 +1,26 @@
 -- Levels that know the slots of a store, whatever is under way there.
-use Rattle.std.proofs.Common.{set, ◌≡◌, ◌≢◌, ◌⊎◌, ℕ, zero, suc, ◌+◌, ◌*◌, ◌/◌, ◌%◌, ◌<◌, ◌≤◌, List, [], ◌∷◌, length, refl, sym, ◌∙◌, ap, subst, Bool, false, not, Option, None, Some, Result, Ok, Err, IfOk, IfErr, inl, inr, arith}
-use Rattle.std.specs.List.{slice_get}
-use Rattle.std.proofs.lemmas.Bool.{cases_eq, false≢true}
-use Rattle.std.proofs.lemmas.List.{get_or-set_other, length-set}
-use Rattle.rq_page.specs.Sizes.{Sizes, IsCellAddress, address, cell_at, cell_count, client_slot_at, directory_at, sender_count}
+use Rattle.std.proofs.Common.{◌≡◌, ◌≢◌, ◌⊎◌, ℕ, zero, suc, ◌+◌, ◌*◌, ◌/◌, ◌%◌, ◌<◌, ◌≤◌, List, length, refl, sym, ◌∙◌, ap, subst, Bool, true, false, cond, not, Option, None, Some, inl, inr, arith}
+use Rattle.std.proofs.lemmas.Bool.{cases_Bool, cases_eq, false≢true, ne_eqb}
+use Rattle.rq_page.specs.Sizes.{Sizes, IsCellAddress, place_of, address, cell_at, cell_count, client_slot_at, directory_at, sender_count}
 use Rattle.rq_page.specs.Pages.{IsWritten, slot_of}
 use Rattle.rq_page.proofs.Addresses.{cells_have_places}
 use Rattle.rq_pool.specs.Pooled.{image_at}
-use Rattle.rq_views.specs.Stored.{IsStoreSlot, is_used, slot_at}
-use Rattle.rq_model.specs.declared.refusal.Refusal.{Refusal}
-use Rattle.rq_model.specs.declared.record.Record.{Record}
+use Rattle.rq_pool.specs.Indexed.{AreFlaggedAlike}
+use Rattle.rq_views.specs.Stored.{IsStoreSlot, is_used, slot_at, slots_in}
 use Rattle.rq_level.specs.declared.slots.Given.{Given}
-use Rattle.rq_level.specs.declared.writes.Plan.{Plan}
-use Rattle.rq_level.specs.declared.writes.SlotWrite.{SlotWrite}
-use Rattle.rq_level.specs.Asked.{MayChoose}
-use Rattle.rq_level.specs.LevelState.{LevelState, KnowsStore, flag_at, is_free_slot, noted, noted_cell}
+use Rattle.rq_level.specs.LevelState.{LevelState, KnowsStore, flag_at, is_cell_address, is_free_slot, noted, noted_cell, noted_in}
 use Rattle.rq_level.specs.Meaning.{AreOf, AreTold, kept_at, level_count, meaning_of}
 use Rattle.rq_level.specs.Given.{AreGiven}
-use Rattle.rq_level.specs.Ops.{Job}
 use Rattle.rq_level.proofs.Based.{noted_there}
+use Rattle.rq_level.proofs.Noting.{is_cell, not_first}
 use Rattle.rq_level.proofs.EachLevel.{all_lawful}
 use Rattle.rq_txn.specs.Rows.{Row}
 use Rattle.rq_sound.specs.Levels.{KeepsCells}
 use Rattle.rq_sound.proofs.Gathering.{cell_of_store}
 use Rattle.rq_sound.proofs.KeptCells.{flag_same, free_by_byte}
-use Rattle.rq_planner.specs.Answered.{KnowsCells, KnowsThose, MayBeTold}
+use Rattle.rq_planner.specs.Answered.{KnowsCells, KnowsThose}
 use Rattle.rq_planner.specs.Asked.{known}
 use Rattle.rq_planner.proofs.Told.{slot_is}
-
--- ---- levels that keep what others keep
-
-pub same_levels : (old now : List LevelState) → length now ≡ length old → ((i : ℕ) → i < length old → kept_at now i ≡ kept_at old i) → now ≡ old
-same_levels [] [] n h = refl
-same_levels [] (y ∷ now) n h = absurd (omega (arith, n))
-same_levels (x ∷ old) [] n h = absurd (omega (arith, n))
-same_levels (x ∷ old) (y ∷ now) n h =
-    let rest : now ≡ old = same_levels old now (omega (arith, n)) (λ i lt. h (suc i) (omega (arith, lt))) in
-    ap (λ z. z ∷ now) (h zero (omega arith)) ∙ ap (λ zs. x ∷ zs) rest
-
-module _ (old mid : List LevelState) (n : ℕ) (changed : mid ≡ set old n (kept_at mid n)) where
-  count_stays : length mid ≡ length old
-  count_stays = ap length changed ∙ length-set old n (kept_at mid n)
-
-  others_stay : (i : ℕ) → i ≢ n → kept_at mid i ≡ kept_at old i
-  others_stay i ne = ap (λ ks. kept_at ks i) changed ∙ get_or-set_other old n i (kept_at mid n) _ ne
-
-  -- one that keeps what it kept
-  pub one_stays : kept_at mid n ≡ kept_at old n → mid ≡ old
-  one_stays same = same_levels old mid count_stays (λ i lt. elim (cases_eq i n) [ inl e ↦ ap (kept_at mid) e ∙ same ∙ ap (kept_at old) (sym e) | inr ne ↦ others_stay i ne ])
-
-  -- what it chose is given back
-  module _ (z : Sizes) (images : List (List ℕ)) (knows : KnowsCells z images old) (inside : n < length old) (now : List LevelState) where
-    again_at : (a i : ℕ) → IsStoreSlot z a → i < length old → (k : LevelState) → (meaning_of i).note k a (slot_at images a) ≡ (meaning_of i).note (kept_at old i) a (slot_at images a) → (meaning_of i).note k a (slot_at images a) ≡ kept_at old i
-    again_at a i store lt k e = e ∙ knows.again i a lt store
-
-    told_back : (w : SlotWrite) → IsStoreSlot z w.at → AreTold w.at (slot_at images w.at) mid now → ((x : List ℕ) → (meaning_of n).note (kept_at mid n) w.at x ≡ (meaning_of n).note (kept_at old n) w.at x) → now ≡ old
-    told_back w store told back = same_levels old now (told.count ∙ count_stays) (λ i lt.
-        told.each i (let c = count_stays in omega (arith, c, lt)) ∙ again_at w.at i store lt (kept_at mid i) (elim (cases_eq i n) [
-          | inl e ↦ subst (λ m. (meaning_of m).note (kept_at mid m) w.at (slot_at images w.at) ≡ (meaning_of m).note (kept_at old m) w.at (slot_at images w.at)) (sym e) (back (slot_at images w.at))
-          | inr ne ↦ ap (λ k. (meaning_of i).note k w.at (slot_at images w.at)) (others_stay i ne)
-        ]))
-
-    pub given_back : (ws : List SlotWrite) → MayChoose (meaning_of n) (kept_at old n) ws (kept_at mid n) → MayBeTold z images (slice_get ws 0) mid now → now ≡ old
-    given_back [] same told = told ∙ one_stays same
-    given_back (w ∷ ws) may told = elim may [
-      | inl same ↦ elim told [
-        | inl t ↦ told_back w t.0 t.1 (λ x. ap (λ k. (meaning_of n).note k w.at x) same)
-        | inr t ↦ t.1 ∙ one_stays same
-      ]
-      | inr c ↦ elim told [
-        | inl t ↦ told_back w t.0 t.1 c.back
-        | inr t ↦ absurd (t.0 c.free (cell_of_store z w.at (subst (λ y. IsCellAddress y w.at) ((all_lawful n).no_others (kept_at old n) z c.sizes (knows.ready n inside) c.told) c.cell)))
-      ]
-    ]
-
-    -- after a plan, and after one of what takes something back
-    pub plan_same : (job : Job) (given : List Given) (latched : List ℕ) (answer : Result Plan Refusal) → (meaning_of n).plans (kept_at old n) job given latched answer (kept_at mid n)
-        → IfOk answer (λ p. MayBeTold z images (slice_get p.writes.items 0) mid now) → IfErr answer (λ _. now ≡ mid) → now ≡ old
-    plan_same job given latched (Ok p) m told left = given_back p.writes.items ((all_lawful n).chooses (kept_at old n) job given latched p (kept_at mid n) m) told
-    plan_same job given latched (Err r) m told left = left ∙ one_stays (((all_lawful n).refuses (kept_at old n) job given latched r (kept_at mid n) m).1)
-
-    pub undo_same : (r : Record) (given : List Given) (latched : List ℕ) (answer : Result Plan Refusal) → (meaning_of n).undoes (kept_at old n) r given latched answer (kept_at mid n)
-        → IfOk answer (λ p. MayBeTold z images (slice_get p.writes.items 0) mid now) → IfErr answer (λ _. now ≡ mid) → now ≡ old
-    undo_same r given latched (Ok p) m told left = given_back p.writes.items ((all_lawful n).chooses_undo (kept_at old n) r given latched p (kept_at mid n) m) told
-    undo_same r given latched (Err e) m told left = left ∙ one_stays (((all_lawful n).refuses_undo (kept_at old n) r given latched e (kept_at mid n) m).1)
 
 -- ---- a slot is told
 
@@ -116,6 +53,40 @@ told_more Old New z images new old now a bytes told is first apart more h = reco
 
 pub not_sizes : (z : Sizes) (a : ℕ) → IsStoreSlot z a → a ≢ 1
 not_sizes z a store e = let low = store.page_low in omega (arith, e, low)
+
+-- ---- the same cells are free
+
+-- what a level keeps of a slot but the first is whether its cell is free
+pub notes_alike : (n : ℕ) (k : LevelState) (z : Sizes) (a : ℕ) (x y : List ℕ) → (meaning_of n).ready z k → a ≢ 1 → (IsCellAddress z a → is_free_slot x ≡ is_free_slot y) → (meaning_of n).note k a x ≡ (meaning_of n).note k a y
+unfolding meaning_of
+notes_alike zero k z a x y ready ne alike = refl
+notes_alike (suc zero) k z a x y ready ne alike = not_first k a x ne ∙ ap (λ (o : Option Sizes). noted_in o k a x) ready.sizes ∙ in_store ∙ sym (ap (λ (o : Option Sizes). noted_in o k a y) ready.sizes) ∙ sym (not_first k a y ne) where
+  in_store : noted_in (Some z) k a x ≡ noted_in (Some z) k a y
+  in_store = elim (cases_Bool (is_cell_address z a)) [
+    | inl cell ↦ rw cell (ap (noted_cell z k (place_of z a)) (alike (is_cell z a cell)))
+    | inr none ↦ rw none refl
+  ]
+notes_alike (suc (suc zero)) k z a x y ready ne alike = rw (ne_eqb a 1 ne) refl
+notes_alike (suc (suc (suc n))) k z a x y ready ne alike = refl
+
+same_use : (b c : Bool) → ◌≡◌ {A = ℕ} (cond b 0 1) (cond c 0 1) → b ≡ c
+same_use true true e = refl
+same_use true false e = absurd (omega (arith, e))
+same_use false true e = absurd (omega (arith, e))
+same_use false false e = refl
+
+-- whether a cell is free is told by its first byte
+pub free_is_told : (z : Sizes) (images : List (List ℕ)) (a : ℕ) → IsStoreSlot z a → IsCellAddress z a → is_free_slot (slot_at images a) ≡ not (is_used (slots_in z images a))
+free_is_told z images a store cell = free_by_byte z a (slot_at images a) cell ∙ ap (λ x. not (is_used x)) (sym (slot_is z images a store))
+
+-- levels that know the slots of a store know them where the same cells are free, whatever else the slots hold
+pub knows_kept : (z : Sizes) (old new : List (List ℕ)) (levels : List LevelState) → AreFlaggedAlike z old new → KnowsCells z old levels → KnowsCells z new levels
+knows_kept z old new levels alike h = record {
+  again = λ i a lt store. notes_alike i (kept_at levels i) z a (slot_at new a) (slot_at old a) (h.ready i lt) (not_sizes z a store) (λ cell.
+      free_is_told z new a store cell ∙ ap not (same_use (is_used (slots_in z new a)) (is_used (slots_in z old a)) (alike a).0) ∙ sym (free_is_told z old a store cell)) ∙ h.again i a lt store;
+  all = h.all;
+  ready = h.ready;
+}
 
 -- a slot was written, and no other
 pub knows_written : (z : Sizes) (images new : List (List ℕ)) (old now : List LevelState) (a : ℕ) (bytes : List ℕ) → IsStoreSlot z a → bytes ≡ slot_at new a → ((b : ℕ) → IsStoreSlot z b → b ≢ a → slot_at new b ≡ slot_at images b)
@@ -152,7 +123,7 @@ of_store z images levels n given h lt are = by (kept_at levels n).sizes refl whe
 chains_are : (z : Sizes) (images : List (List ℕ)) (levels : List LevelState) → KnowsCells z images levels → 1 < length levels
 chains_are z images levels h = is_one z images levels 1 h (omega arith)
 
-notes_one : (z : Sizes) (images : List (List ℕ)) (levels : List LevelState) (a : ℕ) → KnowsCells z images levels → IsStoreSlot z a → noted (kept_at levels 1) a (slot_at images a) ≡ kept_at levels 1
+pub notes_one : (z : Sizes) (images : List (List ℕ)) (levels : List LevelState) (a : ℕ) → KnowsCells z images levels → IsStoreSlot z a → noted (kept_at levels 1) a (slot_at images a) ≡ kept_at levels 1
 unfolding meaning_of
 notes_one z images levels a h store = h.again 1 a (chains_are z images levels h) store
 

@@ -1,27 +1,33 @@
--- A plan is lawful by the laws of its level, whatever slots it was given.
-use Rattle.std.proofs.Common.{◌≡◌, ◌<◌, ◌∙◌, ℕ, List, Some, Result, Ok, Err, IfOk, ap, length, subst, sym, true}
+-- A plan is lawful, and a refusal one that may be, by the laws of the level, whatever slots that was given.
+use Rattle.std.proofs.Common.{◌≡◌, ◌<◌, ◌∙◌, ℕ, List, Bool, Option, None, Some, Result, Ok, Err, IfErr, IfOk, ap, length, refl, subst, sym, true, false}
 use Rattle.std.proofs.lemmas.Bool.{false≢true}
 use Rattle.rq_model.specs.declared.record.Deed.{Deed}
 use Rattle.rq_model.specs.declared.record.Record.{Record}
 use Rattle.rq_model.specs.declared.record.Record.TheVariants.{OpEnd}
 use Rattle.rq_model.specs.declared.refusal.Refusal.{Refusal}
+use Rattle.rq_model.specs.declared.refusal.Refusal.TheVariants as why
 use Rattle.rq_model.specs.Deeds.{deed_by, spelled_deed}
 use Rattle.rq_model.specs.Vocabulary.{is_some}
 use Rattle.rq_page.specs.Sizes.{Sizes}
 use Rattle.rq_views.specs.Items.{told_deed}
-use Rattle.rq_level.specs.Asked.{AreOfSlots, deed_back, job_back}
+use Rattle.rq_level.specs.Asked.{AreOfSlots, deed_back}
+use Rattle.rq_level.specs.ChainPlans.{PlansFor}
+use Rattle.rq_level.specs.declared.slots.Given.{Given}
 use Rattle.rq_level.specs.declared.writes.Plan.{Plan}
-use Rattle.rq_level.specs.Lawful.{TellsDeed}
+use Rattle.rq_level.specs.Lawful.{MayHaveNoPlan, TellsDeed}
 use Rattle.rq_level.specs.LevelState.{LevelState}
 use Rattle.rq_level.specs.Meaning.{kept_at, meaning_of}
-use Rattle.rq_level.specs.Ops.{Job}
+use Rattle.rq_level.specs.Ops.{Doing, Job, Tagging, doing_by, tagging_by}
+use Rattle.rq_level.specs.Ops.Doing.{Send, Receive, Close}
+use Rattle.rq_level.specs.TagPlans.{TagsFor}
 use Rattle.rq_level.specs.Writes.{AreSlotWrites}
 use Rattle.rq_level.proofs.EachLevel.{all_lawful}
 use Rattle.rq_txn.specs.Told.{IsTold}
-use Rattle.rq_store.specs.State.{State}
-use Rattle.rq_planner.specs.Answered.{IsAnswered, IsAnsweredBack, KnowsCells, MayPlan, MayUndo, level_back, wants_of}
-use Rattle.rq_planner.specs.Lawful.{IsLawfulInverse, IsLawfulPlan}
-use Rattle.rq_planner.proofs.Gathered.{given_to}
+use Rattle.rq_planner.specs.Answered.{IsDeedFor, KnowsCells, deed_of, level_back}
+use Rattle.rq_planner.specs.Asked.{Task, task_by, task_level}
+use Rattle.rq_planner.specs.Asked.Task.{Chain, Tag}
+use Rattle.rq_planner.specs.Lawful.{IsLawfulInverse, IsLawfulPlan, MayRefuse}
+use Rattle.rq_planner.proofs.Asking.{task_cases}
 
 -- the deed that bytes tell, by its level
 is_told : (level : ℕ) (bytes : List ℕ) → TellsDeed level bytes → IsTold level bytes
@@ -29,38 +35,93 @@ is_told level bytes h =
     let is : told_deed (deed_by level bytes) ≡ h.deed = ap told_deed h.reads in
     record { reads = h.reads ∙ ap (λ (e : Deed). Some e) (sym is); spelled = ap spelled_deed is ∙ sym h.spelled }
 
-module _ (z : Sizes) (images : List (List ℕ)) (s : State) (levels : List LevelState) (knows : KnowsCells z images levels) where
+-- ---- what was asked for
+
+-- the deed of its bytes
+deed_is : (task : Task) (p : Plan) (d : Deed) → deed_by (task_level task) p.deed ≡ Some d → IsDeedFor task d → IsDeedFor task (deed_of task p)
+deed_is task p d reads asked = subst (IsDeedFor task) (sym (ap told_deed reads)) asked
+
+chain_asked : (undo : Bool) (z : Option Sizes) (d : Doing) (k : LevelState) (given : List Given) (latched : List ℕ) (p : Plan) (after : LevelState) → PlansFor undo z (Some d) k given latched (Ok p) after → IsDeedFor (Chain d) (deed_of (Chain d) p)
+chain_asked true z d k given latched p after m = absurd m
+chain_asked false (Some z) (Send g tag body) k given latched p after m = deed_is (Chain (Send g tag body)) p _ m.reads (refl, refl, refl)
+chain_asked false (Some z) (Receive g) k given latched p after m = deed_is (Chain (Receive g)) p _ m.reads refl
+chain_asked false (Some z) (Close g) k given latched p after m = deed_is (Chain (Close g)) p _ m.reads refl
+chain_asked false None d k given latched p after m = absurd m
+
+tag_asked : (undo : Bool) (z : Option Sizes) (t : Tagging) (k : LevelState) (given : List Given) (p : Plan) (after : LevelState) → TagsFor undo z (Some t) k given (Ok p) after → IsDeedFor (Tag t) (deed_of (Tag t) p)
+tag_asked true z t k given p after m = absurd m
+tag_asked false (Some z) t k given p after m = deed_is (Tag t) p _ m.reads (refl, refl)
+tag_asked false None t k given p after m = absurd m
+
+module _ (k : LevelState) (job : Job) (given : List Given) (latched : List ℕ) (p : Plan) (after : LevelState) where
+  abbrev Planned : ℕ → Type 0
+  Planned n = (meaning_of n).plans k job given latched (Ok p) after
+
+  asked_of_chains : Planned 1 → (d : Doing) → doing_by job.level job.bytes ≡ Some d → IsDeedFor (Chain d) (deed_of (Chain d) p)
+  unfolding meaning_of
+  asked_of_chains m d told = chain_asked job.undo k.sizes d k given latched p after (subst (λ (o : Option Doing). PlansFor job.undo k.sizes o k given latched (Ok p) after) told m)
+
+  asked_of_tags : Planned 2 → (t : Tagging) → tagging_by job.level job.bytes ≡ Some t → IsDeedFor (Tag t) (deed_of (Tag t) p)
+  unfolding meaning_of
+  asked_of_tags m t told = tag_asked job.undo k.sizes t k given p after (subst (λ (o : Option Tagging). TagsFor job.undo k.sizes o k given (Ok p) after) told m)
+
+  -- the deed is what was asked for, whatever slots its level was given
+  is_asked : Planned job.level → (task : Task) → task_by job.level job.bytes ≡ Some task → IsDeedFor task (deed_of task p)
+  is_asked m task told = task_cases (λ (x : Task). IsDeedFor x (deed_of x p)) job.level job.bytes task told
+      (λ d e one. asked_of_chains (subst Planned one m) d e)
+      (λ t e two. asked_of_tags (subst Planned two m) t e)
+
+-- ---- plans
+
+module _ (z : Sizes) (images : List (List ℕ)) (levels : List LevelState) (knows : KnowsCells z images levels) where
   -- a level that is ready for the store was told its sizes
   of_store : (n : ℕ) → n < length levels → (p : Plan) → AreOfSlots (kept_at levels n) p → AreSlotWrites z p.writes.items
   of_store n lt p of = subst (λ y. AreSlotWrites y p.writes.items) ((all_lawful n).no_others (kept_at levels n) z of.sizes (knows.ready n lt) of.told) of.are
 
-  pub lawful_plan : (n : ℕ) (job : Job) (answer : Result Plan Refusal) → n < length levels → IsAnswered s (wants_of levels n) job (MayPlan s (meaning_of n) (kept_at levels n) job) answer → IfOk answer (IsLawfulPlan z n)
-  lawful_plan n job (Err r) lt h = tt
-  lawful_plan n job (Ok p) lt h =
+  pub lawful_plan : (job : Job) (given : List Given) (latched : List ℕ) (answer : Result Plan Refusal) (after : LevelState) → job.level < length levels → (meaning_of job.level).plans (kept_at levels job.level) job given latched answer after → IfOk answer (IsLawfulPlan z job)
+  lawful_plan job given latched (Err r) after lt m = tt
+  lawful_plan job given latched (Ok p) after lt m =
+      let n = job.level in
       let k = kept_at levels n in
-      let m = given_to s (wants_of levels n) job (MayPlan s (meaning_of n) k job) p h in
       let law = all_lawful n in
-      let told = is_told n p.deed (law.told k job m.0 m.1.latched p m.1.after m.1.plans) in
+      let told = is_told n p.deed (law.told k job given latched p after m) in
       record {
-        slots = of_store n lt p (law.slots k job m.0 m.1.latched p m.1.after m.1.plans);
-        count = law.count k job m.0 m.1.latched p m.1.after m.1.plans;
+        slots = of_store n lt p (law.slots k job given latched p after m);
+        count = law.count k job given latched p after m;
         told = told;
-        reply = law.replies k job m.0 m.1.latched p m.1.after m.1.plans (told_deed (deed_by n p.deed)) told.reads;
+        reply = law.replies k job given latched p after m (told_deed (deed_by n p.deed)) told.reads;
+        asked = is_asked k job given latched p after m;
       }
 
-  pub lawful_inverse : (told : Record) (answer : Result Plan Refusal) → level_back told < length levels → is_some (deed_back told) ≡ true → IsAnsweredBack s levels told answer → IfOk answer (IsLawfulInverse z)
-  lawful_inverse told (Err r) lt some h = tt
-  lawful_inverse (OpEnd t j n deed) (Ok p) lt some h =
+  pub lawful_inverse : (told : Record) (given : List Given) (latched : List ℕ) (answer : Result Plan Refusal) (after : LevelState) → level_back told < length levels → is_some (deed_back told) ≡ true
+      → (meaning_of (level_back told)).undoes (kept_at levels (level_back told)) told given latched answer after → IfOk answer (IsLawfulInverse z)
+  lawful_inverse told given latched (Err r) after lt some m = tt
+  lawful_inverse (OpEnd t j n deed) given latched (Ok p) after lt some m =
       let k = kept_at levels n in
       let r = OpEnd t j n deed in
-      let m = given_to s (wants_of levels n) (job_back r) (MayUndo s (meaning_of n) k r) p h in
       let law = all_lawful n in
       record {
-        slots = of_store n lt p (law.slots_undo k r m.0 m.1.latched p m.1.after m.1.undoes);
-        count = law.count_undo k r m.0 m.1.latched p m.1.after m.1.undoes;
+        slots = of_store n lt p (law.slots_undo k r given latched p after m);
+        count = law.count_undo k r given latched p after m;
         inverse = record {
-          deed = law.silent k r m.0 m.1.latched p m.1.after m.1.undoes;
-          reply = law.replies_undo k r m.0 m.1.latched p m.1.after m.1.undoes;
+          deed = law.silent k r given latched p after m;
+          reply = law.replies_undo k r given latched p after m;
         };
       }
-  lawful_inverse _ (Ok p) lt some h = absurd (false≢true some)
+  lawful_inverse _ given latched (Ok p) after lt some m = absurd (false≢true some)
+
+-- a level refuses for memory, a latch or damage alone
+pub plan_refused : (n : ℕ) (k : LevelState) (job : Job) (given : List Given) (latched : List ℕ) (answer : Result Plan Refusal) (after : LevelState) → (meaning_of n).plans k job given latched answer after → IfErr answer MayHaveNoPlan
+plan_refused n k job given latched (Ok p) after m = tt
+plan_refused n k job given latched (Err r) after m = ((all_lawful n).refuses k job given latched r after m).0
+
+pub undo_refused : (n : ℕ) (k : LevelState) (told : Record) (given : List Given) (latched : List ℕ) (answer : Result Plan Refusal) (after : LevelState) → (meaning_of n).undoes k told given latched answer after → IfErr answer MayHaveNoPlan
+undo_refused n k told given latched (Ok p) after m = tt
+undo_refused n k told given latched (Err r) after m = ((all_lawful n).refuses_undo k told given latched r after m).0
+
+pub may_refuse : (answer : Result Plan Refusal) → IfErr answer MayHaveNoPlan → IfErr answer MayRefuse
+may_refuse (Ok p) h = tt
+may_refuse (Err why.NoMemory) h = tt
+may_refuse (Err why.Latched) h = tt
+may_refuse (Err (why.Damaged x)) h = tt
+may_refuse (Err _) h = absurd h

@@ -1,17 +1,19 @@
 -- What a store is answered that asks a level for a plan, and what levels keep of it.
-use Rattle.std.specs.Prelude.{◌≡◌, ◌⊎◌, ℕ, ◌/◌, ◌≤◌, ◌<◌, ◌^◌, true, false, List, [], ◌∷◌, ◌++◌, length, Option, None, Some, Result, Ok, Err, IfErr, IfOk}
+use Rattle.std.specs.Prelude.{◌≡◌, ◌⊎◌, ℕ, ◌/◌, ◌%◌, ◌≤◌, ◌<◌, ◌^◌, true, false, List, [], ◌∷◌, ◌++◌, length, Option, None, Some, Result, Ok, Err, IfErr, IfOk}
 use Rattle.rq_model.specs.declared.record.Deed.{Deed}
 use Rattle.rq_model.specs.declared.record.Deed.TheVariants.{Append, UnlinkHead, Close as Close_deed, Mark}
 use Rattle.rq_model.specs.declared.refusal.Refusal.{Refusal}
 use Rattle.rq_model.specs.declared.refusal.Refusal.TheVariants as why
 use Rattle.rq_model.specs.Deeds.{deed_by}
 use Rattle.rq_model.specs.declared.record.Record.{Record}
-use Rattle.rq_page.specs.Sizes.{Sizes, cell_count}
+use Rattle.rq_page.specs.Sizes.{IsCellAddress, Sizes, cell_count}
+use Rattle.rq_page.specs.Slots.{IsSlotOf}
+use Rattle.rq_page.specs.Slots.Slot.{Free}
 use Rattle.rq_views.specs.Items.{items, told_deed}
 use Rattle.rq_views.specs.Legal.{view}
 use Rattle.rq_views.specs.Log.{Slots}
 use Rattle.rq_views.specs.Plans.Turn.{Did, Undid}
-use Rattle.rq_views.specs.Stored.{IsStoreSlot, slot_at}
+use Rattle.rq_views.specs.Stored.{IsStoreSlot, slot_at, slots_in}
 use Rattle.rq_level.specs.Asked.{AreWanted, job_back}
 use Rattle.rq_level.specs.ChainPlans.{TellsDamage}
 use Rattle.rq_level.specs.declared.slots.Given.{Given}
@@ -26,7 +28,7 @@ use Rattle.rq_txn.specs.Rows.{Row, latched_in}
 use Rattle.rq_groups.specs.Waiting.{waits}
 use Rattle.rq_store.specs.State.{State}
 use Rattle.rq_sound.specs.Calls.{IsIdle}
-use Rattle.rq_sound.specs.Gathering.{AreGivenFrom}
+use Rattle.rq_sound.specs.Gathering.{AreGivenFrom, with_slot}
 use Rattle.rq_sound.specs.Groups.{slots_now}
 use Rattle.rq_sound.specs.Latching.{any_latched, at_tail}
 use Rattle.rq_sound.specs.Levels.{AreLatched, IsGathered, IsUnlatchedPlan}
@@ -59,6 +61,12 @@ IsWithheld s a why.NoMemory = Unit {0}
 IsWithheld s a why.Latched = latched_in s.rows (a / 16) ≡ true
 IsWithheld s a (why.Damaged x) = IsStoreSlot s.sizes a → ⊥
 IsWithheld s a _ = ⊥
+
+-- the slot at this address, which is one of the store, is given behind the others, as these images hold it
+pub record IsGivenMore (z : Sizes) (images : List (List ℕ)) (a : ℕ) (old new : List Given) : Type 0 where
+  pub place : IsStoreSlot z a
+  pub slot : IsSlotOf z (a / 16) (a % 16) (slot_at images a)
+  pub more : new ≡ with_slot old a (slot_at images a)
 
 -- Where it wants no other slot, the answer is one that it may give, or memory is wanting. Else there is no plan.
 abbrev pub ComesFrom : State → (wanted : Option ℕ) → (May : Result Plan Refusal → Type 0) → Result Plan Refusal → Type 0
@@ -206,8 +214,16 @@ pub record KnowsThose (Those : ℕ → Type 0) (z : Sizes) (images : List (List 
 abbrev pub KnowsCells : Sizes → List (List ℕ) → List LevelState → Type 0
 KnowsCells z images levels = KnowsThose (IsStoreSlot z) z images levels
 
--- the slot of this write is told as it is, where a free cell stands in it; otherwise nothing is
+-- a cell of the store, which is free
+abbrev pub IsFreeCell : Sizes → List (List ℕ) → ℕ → Type 0
+IsFreeCell z images a = IsCellAddress z a × (slots_in z images a ≡ Free)
+
+-- the write is over a free cell's bytes, and a free cell stands there
+abbrev pub IsOverFree : Sizes → List (List ℕ) → SlotWrite → Type 0
+IsOverFree z images w = (is_free_slot w.before ≡ true) × IsFreeCell z images w.at
+
+-- where a write is over a free cell, that is told; otherwise nothing is
 abbrev pub MayBeTold : Sizes → List (List ℕ) → Option SlotWrite → (old new : List LevelState) → Type 0
 MayBeTold z images None old new = new ≡ old
-MayBeTold z images (Some w) old new = (IsStoreSlot z w.at × AreTold w.at (slot_at images w.at) old new)
-    ⊎ ((is_free_slot w.before ≡ true → IsStoreSlot z w.at → ⊥) × (new ≡ old))
+MayBeTold z images (Some w) old new = (IsOverFree z images w × AreTold w.at w.before old new)
+    ⊎ ((IsOverFree z images w → ⊥) × (new ≡ old))

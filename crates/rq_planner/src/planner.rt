@@ -5,15 +5,16 @@ ghost use Rattle.rq_model.specs.Deeds.{deed_by};
 ghost use Rattle.rq_model.specs.Vocabulary.{is_some};
 ghost use Rattle.rq_views.specs.Stored.{IsStoreSlot, slot_at, slots_in};
 ghost use Rattle.rq_level.specs.Asked.{deed_back, job_back};
-ghost use Rattle.rq_level.specs.Writes.{answer_of};
+ghost use Rattle.rq_level.specs.Writes.{AreSlotWrites, answer_of};
 ghost use Rattle.rq_level.specs.Meaning.{AppliesOnce, AreTold, kept_at, meaning_of, redo_of};
+ghost use Rattle.rq_pool.specs.Fetching.{HasReadFor, ReadsTruly};
 ghost use Rattle.rq_pool.specs.Pooled.{image_at};
 ghost use Rattle.rq_pool.specs.Writing.{IsRedoAt};
 ghost use Rattle.rq_planner.specs.Answered.{IsAnswered, IsAnsweredBack, IsPlannedAlone, IsPlannedBy, KnowsCells, MayPlan, level_back, wants_of};
 ghost use Rattle.rq_planner.specs.Asked.{known_from};
 ghost use Rattle.rq_planner.specs.Backs.{IsJudgedBack, IsRefusedBack, IsTakingBack};
 ghost use Rattle.rq_planner.specs.Handed.{AreForStores};
-ghost use Rattle.rq_planner.specs.Lawful.{IsLawfulInverse, IsLawfulPlan};
+ghost use Rattle.rq_planner.specs.Lawful.{IsLawfulInverse, IsLawfulPlan, MayRefuse, unlatched_refusal};
 ghost use Rattle.rq_planner.specs.PageUndos.{NotPutBackFor, PutsBackWrite};
 
 use crate::handed::StoreLevels;
@@ -90,28 +91,32 @@ impl<B: Level> Planner<B> {
     }
 
     /// The plan of an operation by its level, from the slots as they are. Its writes are put into `room`. What it chose is
-    /// given back.
+    /// given back. What a plan tells was asked for, whatever the device gave.
     ///
     /// # Errors
     /// `Latched` where it needs a page that an operation under way has latched, or a cell of which none is free on another
-    /// page, and only there; `NoMemory`; of a store that is not sound, or where the operation may not be done, also
-    /// `Damaged`.
+    /// page, and only there; `NoMemory`; of a store that is not sound, where the operation may not be done, or where the device
+    /// has lied, also `Damaged`; `DiskRead`.
     pub fn plan<P: PageDevice>(
         &mut self,
         room: Vec<SlotWrite>,
-        pages: &Pages<P>,
+        pages: &mut Pages<P>,
         transactions: &Transactions,
         op: &Op,
     ) -> Result<Plan, Refusal>
-        requires known { KnowsCells pages.now.sizes pages.now.images self.old }
+        requires known { KnowsCells pages.old.sizes pages.old.images self.old }
         requires level { op.now.level < length self.old }
         requires forward { op.now.undo ≡ false }
         ensures same { self.new ≡ self.old }
-        ensures answered { IsAnswered (known_from pages.now transactions.now) (wants_of self.old op.now.level) op.now
-            (MayPlan (known_from pages.now transactions.now) (meaning_of op.now.level) (kept_at self.old op.now.level) op.now)
+        ensures read { HasReadFor P.PageDevice pages.old result pages.new }
+        ensures lawful { IfOk result (IsLawfulPlan pages.old.sizes op.now) }
+        ensures causes { IfErr result MayRefuse }
+        ensures answered { ReadsTruly P.PageDevice pages.old result pages.new
+            → IsAnswered (known_from pages.old transactions.now) (wants_of self.old op.now.level) op.now
+            (MayPlan (known_from pages.old transactions.now) (meaning_of op.now.level) (kept_at self.old op.now.level) op.now)
             result }
-        ensures lawful { IfOk result (IsLawfulPlan pages.now.sizes op.now.level) }
-        ensures planned { IsPlannedBy (known_from pages.now transactions.now) op.now result }
+        ensures planned { ReadsTruly P.PageDevice pages.old result pages.new
+            → IsPlannedBy (known_from pages.old transactions.now) op.now result }
     {
         plan(
             room,
@@ -126,23 +131,28 @@ impl<B: Level> Planner<B> {
     /// Has the level that a record names plan what takes its deed back, as `plan` does.
     ///
     /// # Errors
-    /// `Latched`, `NoMemory`; of a store that is not sound, or where the operation may not be undone, also `Damaged`.
+    /// `Latched`, `NoMemory`; of a store that is not sound, where the operation may not be undone, or where the device has lied,
+    /// also `Damaged`; `DiskRead`.
     pub fn plan_inverse<P: PageDevice>(
         &mut self,
         alloc: Global,
         room: Vec<SlotWrite>,
-        pages: &Pages<P>,
+        pages: &mut Pages<P>,
         transactions: &Transactions,
         told: &Record,
     ) -> Result<Plan, Refusal>
-        requires known { KnowsCells pages.now.sizes pages.now.images self.old }
+        requires known { KnowsCells pages.old.sizes pages.old.images self.old }
         requires level { level_back told.now < length self.old }
         ensures same { self.new ≡ self.old }
-        ensures answered { IsAnsweredBack (known_from pages.now transactions.now) self.old told.now result }
-        ensures lawful { is_some (deed_back told.now) ≡ true → IfOk result (IsLawfulInverse pages.now.sizes) }
-        ensures planned { IsPlannedBy (known_from pages.now transactions.now) (job_back told.now) result }
-        ensures judged { (d : Deed) → deed_back told.now ≡ Some d
-            → IsJudgedBack pages.now.sizes (slots_in pages.now.sizes pages.now.images) d result }
+        ensures read { HasReadFor P.PageDevice pages.old result pages.new }
+        ensures lawful { is_some (deed_back told.now) ≡ true → IfOk result (IsLawfulInverse pages.old.sizes) }
+        ensures causes { IfErr result MayRefuse }
+        ensures answered { ReadsTruly P.PageDevice pages.old result pages.new
+            → IsAnsweredBack (known_from pages.old transactions.now) self.old told.now result }
+        ensures planned { ReadsTruly P.PageDevice pages.old result pages.new
+            → IsPlannedBy (known_from pages.old transactions.now) (job_back told.now) result }
+        ensures judged { ReadsTruly P.PageDevice pages.old result pages.new → (d : Deed) → deed_back told.now ≡ Some d
+            → IsJudgedBack pages.old.sizes (slots_in pages.old.sizes pages.old.images) d result }
     {
         plan_inverse(
             alloc,
@@ -158,22 +168,25 @@ impl<B: Level> Planner<B> {
     /// The writes that take back the deed that a record tells, where nothing is under way.
     ///
     /// # Errors
-    /// `Damaged` where it tells none, or one that the slots do not show to be done last. A close is shown by its closed
-    /// group. `NoMemory`, of a deed that is told.
+    /// `Damaged` where it tells none, or one that the slots do not show to be done last, or where the device has lied. A close is
+    /// shown by its closed group. `NoMemory`, of a deed that is told. `DiskRead`.
     pub fn plan_inverse_alone<P: PageDevice>(
         &mut self,
         alloc: Global,
-        pages: &Pages<P>,
+        pages: &mut Pages<P>,
         told: &Record,
     ) -> Result<Vec<SlotWrite>, Refusal>
-        requires { KnowsCells pages.now.sizes pages.now.images self.old }
+        requires { KnowsCells pages.old.sizes pages.old.images self.old }
         ensures same { self.new ≡ self.old }
-        ensures answered { IfOk result (λ writes.
-            IsPlannedAlone pages.now.sizes pages.now.images self.old told.now writes.items) }
-        ensures plan { IfOk result (λ writes. IsTakingBack pages.now.sizes
-            (slots_in pages.now.sizes pages.now.images) (deed_back told.now) writes.items) }
-        ensures refused { IfErr result (λ r. IsRefusedBack pages.now.sizes
-            (slots_in pages.now.sizes pages.now.images) (deed_back told.now) r) }
+        ensures read { HasReadFor P.PageDevice pages.old result pages.new }
+        ensures lawful { IfOk result (λ writes. AreSlotWrites pages.old.sizes writes.items) }
+        ensures causes { IfErr result MayRefuse }
+        ensures answered { ReadsTruly P.PageDevice pages.old result pages.new → IfOk result (λ writes.
+            IsPlannedAlone pages.old.sizes pages.old.images self.old told.now writes.items) }
+        ensures plan { ReadsTruly P.PageDevice pages.old result pages.new → IfOk result (λ writes. IsTakingBack pages.old.sizes
+            (slots_in pages.old.sizes pages.old.images) (deed_back told.now) writes.items) }
+        ensures refused { ReadsTruly P.PageDevice pages.old result pages.new → IfErr result (λ r. IsRefusedBack pages.old.sizes
+            (slots_in pages.old.sizes pages.old.images) (deed_back told.now) r) }
     {
         if !self.reads_back(told) {
             return Err(Refusal::Damaged(Damage::Page(0)));
@@ -181,11 +194,7 @@ impl<B: Level> Planner<B> {
         let nobody = Transactions::new(alloc);
         match self.plan_inverse(alloc, Vec::new(alloc), pages, &nobody, told) {
             Ok(plan) => Ok(plan.writes),
-            // Nobody has latched a page.
-            Err(Refusal::Latched) => Err(Refusal::Damaged(Damage::Page(0))),
-            Err(Refusal::Damaged(damage)) => Err(Refusal::Damaged(damage)),
-            // No level refuses for another cause than memory.
-            Err(_) => Err(Refusal::NoMemory),
+            Err(refusal) => Err(refused_alone(refusal)),
         }
     }
 
@@ -254,5 +263,15 @@ impl<B: Level> Planner<B> {
         ensures device { pages.new.device ≡ pages.old.device }
     {
         pages.redo(&mut self.levels, at, lsn, record)
+    }
+}
+
+// Why there is no plan, where nobody has latched a page.
+fn refused_alone(refusal: Refusal) -> Refusal
+    ensures { result ≡ unlatched_refusal refusal }
+{
+    match refusal {
+        Refusal::Latched => Refusal::Damaged(Damage::Page(0)),
+        other => other,
     }
 }

@@ -1,8 +1,12 @@
 //! Plans of operations, and of what takes them back.
-ghost use Rattle.std.specs.Prelude.{◌≡◌, ◌<◌, length};
+ghost use Rattle.std.specs.Prelude.{◌≡◌, ◌<◌, IfErr, IfOk, length, true};
+ghost use Rattle.rq_model.specs.Vocabulary.{is_some};
+ghost use Rattle.rq_level.specs.Asked.{deed_back};
 ghost use Rattle.rq_level.specs.Meaning.{kept_at, meaning_of};
+ghost use Rattle.rq_pool.specs.Fetching.{HasReadFor, ReadsTruly};
 ghost use Rattle.rq_planner.specs.Answered.{IsAnswered, IsAnsweredBack, KnowsCells, MayPlan, level_back, wants_of};
 ghost use Rattle.rq_planner.specs.Asked.{known_from};
+ghost use Rattle.rq_planner.specs.Lawful.{IsLawfulInverse, IsLawfulPlan, MayRefuse};
 
 use crate::gathering::gather;
 use crate::telling::give_back;
@@ -19,20 +23,24 @@ use std::alloc::Global;
 ///
 /// # Errors
 /// Those of the level; `Latched` where it wants a slot of a page that an operation under way has latched; `Damaged` where it
-/// wants one that the store has not; `NoMemory`.
+/// wants one that the store has not; `NoMemory`; `DiskRead`, or `Damaged` with a page that a device gave that has lied.
 pub(crate) fn plan<P: PageDevice, B: Level>(
     room: Vec<SlotWrite>,
-    pages: &Pages<P>,
+    pages: &mut Pages<P>,
     transactions: &Transactions,
     levels: &mut Levels<B>,
     op: &Op,
     slots: &mut Slots,
 ) -> Result<Plan, Refusal>
-    requires known { KnowsCells pages.now.sizes pages.now.images levels.old }
+    requires known { KnowsCells pages.old.sizes pages.old.images levels.old }
     requires level { op.now.level < length levels.old }
     ensures same { levels.new ≡ levels.old }
-    ensures answered { IsAnswered (known_from pages.now transactions.now) (wants_of levels.old op.now.level) op.now
-        (MayPlan (known_from pages.now transactions.now) (meaning_of op.now.level) (kept_at levels.old op.now.level) op.now)
+    ensures read { HasReadFor P.PageDevice pages.old result pages.new }
+    ensures lawful { IfOk result (IsLawfulPlan pages.old.sizes op.now) }
+    ensures causes { IfErr result MayRefuse }
+    ensures answered { ReadsTruly P.PageDevice pages.old result pages.new
+        → IsAnswered (known_from pages.old transactions.now) (wants_of levels.old op.now.level) op.now
+        (MayPlan (known_from pages.old transactions.now) (meaning_of op.now.level) (kept_at levels.old op.now.level) op.now)
         result }
 {
     match gather(pages, transactions, levels, op, slots) {
@@ -52,16 +60,20 @@ pub(crate) fn plan<P: PageDevice, B: Level>(
 pub(crate) fn plan_inverse<P: PageDevice, B: Level>(
     alloc: Global,
     room: Vec<SlotWrite>,
-    pages: &Pages<P>,
+    pages: &mut Pages<P>,
     transactions: &Transactions,
     levels: &mut Levels<B>,
     told: &Record,
     slots: &mut Slots,
 ) -> Result<Plan, Refusal>
-    requires known { KnowsCells pages.now.sizes pages.now.images levels.old }
+    requires known { KnowsCells pages.old.sizes pages.old.images levels.old }
     requires level { level_back told.now < length levels.old }
     ensures same { levels.new ≡ levels.old }
-    ensures answered { IsAnsweredBack (known_from pages.now transactions.now) levels.old told.now result }
+    ensures read { HasReadFor P.PageDevice pages.old result pages.new }
+    ensures lawful { is_some (deed_back told.now) ≡ true → IfOk result (IsLawfulInverse pages.old.sizes) }
+    ensures causes { IfErr result MayRefuse }
+    ensures answered { ReadsTruly P.PageDevice pages.old result pages.new
+        → IsAnsweredBack (known_from pages.old transactions.now) levels.old told.now result }
 {
     let Ok(op) = Op::back(alloc, told) else {
         return Err(Refusal::NoMemory);

@@ -6,7 +6,7 @@ ghost use Rattle.rq_page.specs.Slots.{Free};
 ghost use Rattle.rq_views.specs.InStore.{IsClientAddress};
 ghost use Rattle.rq_views.specs.Stored.{IsStoreSlot, slot_at, slots_in};
 ghost use Rattle.rq_level.specs.Meaning.{AreTold, kept_at, meaning_of};
-ghost use Rattle.rq_planner.specs.Answered.{KnowsCells, MayBeTold};
+ghost use Rattle.rq_planner.specs.Answered.{IsFreeCell, IsOverFree, KnowsCells, MayBeTold};
 ghost use Rattle.rq_planner.specs.Handed.{AreForStores};
 
 use rq_disk::PageDevice;
@@ -34,7 +34,8 @@ pub(crate) fn give_back<P: PageDevice, B: Level>(
     }
 }
 
-// Tells the levels of the first slot of a plan as it is, where a free cell stands in it.
+// Tells the levels of the first slot of a plan, where a free cell stands there. No page is read: a plan that chooses a cell is over
+// what that holds.
 fn unreserve<P: PageDevice, B: Level>(
     pages: &Pages<P>,
     levels: &mut Levels<B>,
@@ -45,12 +46,27 @@ fn unreserve<P: PageDevice, B: Level>(
     let Some(write) = writes.first() else {
         return;
     };
-    if write.before[0] != 0 {
-        return;
+    if is_over_free(pages, write) {
+        levels.noted(write.at, &write.before);
     }
-    if let Some(bytes) = pages.slot(write.at) {
-        levels.noted(write.at, bytes);
+}
+
+// Whether the write is over a free cell, and one stands there.
+fn is_over_free<P: PageDevice>(pages: &Pages<P>, write: &SlotWrite) -> bool
+    ensures { IsTrue result ↔ IsOverFree pages.now.sizes pages.now.images write.now }
+{
+    write.before[0] == 0 && is_free(pages, write.at)
+}
+
+// Whether the store has a cell at this address, and it is free. No page is read.
+fn is_free<P: PageDevice>(pages: &Pages<P>, at: Addr) -> bool
+    ensures { IsTrue result ↔ IsFreeCell pages.now.sizes pages.now.images at }
+{
+    let layout = pages.layout();
+    if !layout.is_cell_address(at) {
+        return false;
     }
+    is_at(&pages.next_free(layout.cell_place(at)), at)
 }
 
 /// Tells levels a store in which nothing is under way: the superblock's slot that tells the sizes, and then each slot of

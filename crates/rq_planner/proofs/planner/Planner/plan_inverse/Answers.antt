@@ -4,23 +4,16 @@ use Rattle.rq_planner.specs.Answered.{IsAnsweredBack}
 use Rattle.rq_planner.specs.Asked.{known_from}
 use Rattle.rq_planner.proofs.Backs.{back_judged}
 use Rattle.rq_planner.proofs.Asking.{back_says}
-use Rattle.rq_planner.proofs.Lawful.{lawful_inverse}
 use Rattle.rq_planner.proofs.planner.Planner.plan_inverse.Goals as goal
 
-pub returns-clause-lawful : goal.returns-clause-lawful
-returns-clause-lawful g c some =
-    let s = known_from c.args.pages.now c.args.transactions.now in
-    lawful_inverse c.args.pages.now.sizes c.args.pages.now.images s c.args.self.now c.requires.known c.args.told.now c.plan_inverse.result c.requires.level some
-    (subst (λ (ks : List LevelState). IsAnsweredBack s ks c.args.told.now c.plan_inverse.result) c.self.view_is c.plan_inverse.ensures.answered)
-
 pub returns-clause-planned : goal.returns-clause-planned
-returns-clause-planned g c =
+returns-clause-planned g c truly =
     let s = known_from c.args.pages.now c.args.transactions.now in
     back_says c.args.pages.now.sizes c.args.pages.now.images c.args.transactions.now c.args.self.now c.requires.known c.plan_inverse.result c.args.told.now
-    (subst (λ (ks : List LevelState). IsAnsweredBack s ks c.args.told.now c.plan_inverse.result) c.self.view_is c.plan_inverse.ensures.answered)
+    (subst (λ (ks : List LevelState). IsAnsweredBack s ks c.args.told.now c.plan_inverse.result) c.self.view_is (c.plan_inverse.ensures.answered truly))
 
 pub returns-clause-judged : goal.returns-clause-judged
-returns-clause-judged g c d told =
+returns-clause-judged g c truly d told =
     let s = known_from c.args.pages.now c.args.transactions.now in
     back_judged c.args.pages.now.sizes c.args.pages.now.images c.args.transactions.now c.args.self.now c.requires.known c.plan_inverse.result c.args.told.now d told
-    (subst (λ (ks : List LevelState). IsAnsweredBack s ks c.args.told.now c.plan_inverse.result) c.self.view_is c.plan_inverse.ensures.answered)
+    (subst (λ (ks : List LevelState). IsAnsweredBack s ks c.args.told.now c.plan_inverse.result) c.self.view_is (c.plan_inverse.ensures.answered truly))

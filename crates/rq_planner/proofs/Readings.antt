@@ -1,0 +1,111 @@
+-- Calls that read pages on their way.
+use Rattle.std.proofs.Common.{◌≡◌, ◌⊎◌, ⊎_elim, ℕ, ◌+◌, ◌%◌, ◌^◌, ◌<◌, List, Result, Ok, Err, IfErr, refl, sym, ◌∙◌, ap, subst, inl, inr}
+use Rattle.rq_model.specs.declared.refusal.Refusal.{Refusal}
+use Rattle.rq_model.specs.declared.refusal.Refusal.TheVariants as why
+use Rattle.rq_disk.specs.Device.{PageAsk}
+use Rattle.rq_disk.specs.declared.device.PageDevice.{Ghosts}
+use Rattle.rq_page.specs.Sizes.{Sizes, page_count}
+use Rattle.rq_level.specs.Lawful.{MayHaveNoPlan}
+use Rattle.rq_level.specs.LevelState.{LevelState}
+use Rattle.rq_pool.specs.Held.{Held, IsFramed}
+use Rattle.rq_pool.specs.Pooled.{Pooled}
+use Rattle.rq_pool.specs.Fetching.{AreAllFramed, HasFailed, HasReadFor, MayHaveRead, ReadFails, ReadsTruly}
+use Rattle.rq_pool.proofs.Fetched.{still_read, read_then}
+use Rattle.rq_planner.specs.Answered.{KnowsCells}
+use Rattle.rq_planner.specs.Lawful.{MayRefuse, unlatched_refusal, unread_refusal}
+use Rattle.rq_planner.proofs.Knowing.{knows_kept}
+
+err_is : {X : Type 0} (e r : Refusal) → ◌≡◌ {A = Result X Refusal} (Err e) (Err r) → e ≡ r
+err_is e r is = cc
+
+module _ {P : Type 0} (g : Ghosts P) where
+  -- what was read is the store's
+  abbrev pub AreTrue : Pooled P → Pooled P → Type 0
+  AreTrue old new = AreAllFramed old ⊎ g.honest new.device
+
+  pub true_images : (old new : Pooled P) → MayHaveRead g old new → AreTrue old new → new.images ≡ old.images
+  true_images old new read true = ⊎_elim (λ all. ap (λ (p : Pooled P). p.images) (read.stood all)) (λ h. (read.kept 0).images h) true
+
+  -- so it is of a part of what was read
+  pub true_before : (old mid new : Pooled P) → MayHaveRead g mid new → AreTrue old new → AreTrue old mid
+  true_before old mid new read true = ⊎_elim (λ all. inl all) (λ h. inr (read.device.honest h)) true
+
+  pub true_after : (old mid new : Pooled P) → MayHaveRead g old mid → AreTrue old new → AreTrue mid new
+  true_after old mid new read true = ⊎_elim (λ all. inl (subst (λ (p : Pooled P). AreAllFramed p) (sym (read.stood all)) all)) (λ h. inr h) true
+
+  -- so it is where a refusal is passed on, perhaps as another; but one that tells of a failed read tells of it then too
+  pub truly_passed : {X Y : Type 0} (f : Refusal → Refusal) (e r : Refusal) (old mid new : Pooled P) → f why.DiskRead ≡ why.DiskRead → r ≡ f e → MayHaveRead g old mid → ReadsTruly {X = X} g old (Err r) new → ReadsTruly {X = Y} g mid (Err e) new
+  truly_passed f e r old mid new same is read truly = (true_after old mid new read truly.0, λ failed. truly.1 (ap Err (is ∙ ap f (err_is e why.DiskRead failed) ∙ same)))
+
+  -- an answer that is none is no failed read
+  pub truly_done : {X : Type 0} (x : X) (old new : Pooled P) → AreTrue old new → ReadsTruly g old (Ok x) new
+  truly_done x old new true = (true, λ is. cc is)
+
+  -- levels go on knowing the slots
+  pub knows_read : (old new : Pooled P) (levels : List LevelState) → MayHaveRead g old new → KnowsCells old.sizes old.images levels → KnowsCells new.sizes new.images levels
+  knows_read old new levels read h =
+      let kept = read.kept 0 in
+      subst (λ (z : Sizes). KnowsCells z new.images levels) (sym kept.sizes) (knows_kept old.sizes old.images new.images levels kept.flags h)
+
+  -- a device that had not failed has failed since
+  failed_then : {ask : PageAsk} (mid old new : P) → g.faults mid ≡ g.faults old → HasFailed g ask mid new → HasFailed g ask old new
+  failed_then mid old new same f = record {
+    once = subst (λ (n : ℕ). g.faults new ≡ (n + 1) % 2 ^ 64) same f.once;
+    before = f.before;
+    none = f.none ∙ same;
+    excused = f.excused;
+  }
+
+  fails_then : (e : Refusal) (old mid new : Pooled P) → MayHaveRead g old mid → g.faults mid.device ≡ g.faults old.device → ReadFails g e mid new → ReadFails g e old new
+  fails_then why.DiskRead old mid new read same fails = (
+    record {
+      page = fails.0.page;
+      behind = fails.0.behind;
+      within = subst (λ (z : Sizes). fails.0.page < page_count z) (read.kept 0).sizes fails.0.within;
+      outside = λ framed. fails.0.outside (subst (λ (f : List Held). IsFramed f fails.0.page) (sym read.frames) framed);
+    },
+    failed_then mid.device old.device new.device same fails.1,
+  )
+  fails_then _ old mid new read same fails = fails ∙ same
+
+  -- some were read, and then some on the way of a call
+  pub reads_then : {X : Type 0} (r : Result X Refusal) (old mid new : Pooled P) → MayHaveRead g old mid → g.faults mid.device ≡ g.faults old.device → HasReadFor g mid r new → HasReadFor g old r new
+  reads_then (Ok x) old mid new read same f = record { read = read_then g old mid new read f.read; counted = f.counted ∙ same; refused = tt }
+  reads_then (Err e) old mid new read same f = record { read = read_then g old mid new read f.read; counted = tt; refused = fails_then e old mid new read same f.refused }
+
+  not_failed : (e : Refusal) (old new : Pooled P) → MayHaveNoPlan e → g.faults new.device ≡ g.faults old.device → ReadFails g e old new
+  not_failed why.NoMemory old new h same = same
+  not_failed why.Latched old new h same = same
+  not_failed (why.Damaged d) old new h same = same
+  not_failed _ old new h same = absurd h
+
+  -- and then it is answered without another read
+  pub reads_answered : {X : Type 0} (r : Result X Refusal) (old new : Pooled P) → MayHaveRead g old new → g.faults new.device ≡ g.faults old.device → IfErr r MayHaveNoPlan → HasReadFor g old r new
+  reads_answered (Ok x) old new read same may = record { read = read; counted = same; refused = tt }
+  reads_answered (Err e) old new read same may = record { read = read; counted = tt; refused = not_failed e old new may same }
+
+  -- nothing was read
+  pub reads_nothing : {X : Type 0} (r : Result X Refusal) (pages : Pooled P) → IfErr r MayHaveNoPlan → HasReadFor g pages r pages
+  reads_nothing r pages may = reads_answered r pages pages (still_read g pages) refl may
+
+  -- a call passes a refusal on
+  pub reads_passed : {X Y : Type 0} (e r : Refusal) (old new : Pooled P) → (ReadFails g e old new → ReadFails g r old new) → HasReadFor {X = X} g old (Err e) new → HasReadFor {X = Y} g old (Err r) new
+  reads_passed e r old new passes f = record { read = f.read; counted = tt; refused = passes f.refused }
+
+  pub fails_unread : (e : Refusal) (old new : Pooled P) → ReadFails g e old new → ReadFails g (unread_refusal e) old new
+  fails_unread why.DiskRead old new fails = fails
+  fails_unread _ old new fails = fails
+
+  pub fails_alone : (e : Refusal) (old new : Pooled P) → ReadFails g e old new → ReadFails g (unlatched_refusal e) old new
+  fails_alone why.Latched old new fails = fails
+  fails_alone _ old new fails = fails
+
+-- a refusal that is passed on as another
+pub may_unread : (e : Refusal) → MayRefuse (unread_refusal e)
+may_unread why.DiskRead = tt
+may_unread (why.Damaged x) = tt
+may_unread _ = tt
+
+pub may_alone : (e : Refusal) → MayRefuse e → MayRefuse (unlatched_refusal e)
+may_alone why.Latched may = tt
+may_alone _ may = may
