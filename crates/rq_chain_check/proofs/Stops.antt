@@ -1,13 +1,11 @@
 -- What is read of pages on the way of a check, and why that stopped.
-use Rattle.std.proofs.Common.{◌≡◌, ℕ, ◌+◌, ◌%◌, ◌^◌, ◌<◌, ◌≤◌, List, Result, Ok, Err, inl, inr, refl, sym, subst, ◌∙◌}
+use Rattle.std.proofs.Common.{◌≡◌, ℕ, ◌<◌, ◌≤◌, Ok, Err, inl, inr, refl, sym, subst}
 use Rattle.std.proofs.lemmas.Bool.{false≢true}
 use Rattle.rq_model.specs.declared.refusal.Refusal.{Refusal}
 use Rattle.rq_model.specs.declared.refusal.Refusal.TheVariants as why
 use Rattle.rq_model.specs.declared.refusal.Damage.TheVariants as damage
-use Rattle.rq_disk.specs.Device.{PageAsk}
 use Rattle.rq_disk.specs.declared.device.PageDevice.{Ghosts}
 use Rattle.rq_page.specs.Sizes.{Sizes, page_count}
-use Rattle.rq_pool.specs.Held.{Held, IsFramed}
 use Rattle.rq_pool.specs.Pooled.{Pooled}
 use Rattle.rq_pool.specs.Fetching.{AreAllFramed, Fetches, HasReadFor, IsReadAsStored, MayHaveRead, ReadsTruly}
 use Rattle.rq_pool.proofs.Fetched.{stored_after}

@@ -1,16 +1,14 @@
 -- Why reading pages stopped.
-use Rattle.std.proofs.Common.{◌≡◌, ℕ, ◌+◌, ◌%◌, ◌^◌, ◌<◌, ◌≤◌, ◌/◌, List, Result, Ok, Err, IfErr, refl, sym, subst, arith, ◌∙◌, inl, inr}
+use Rattle.std.proofs.Common.{◌≡◌, ℕ, ◌<◌, ◌≤◌, ◌/◌, List, Result, Ok, Err, IfErr, refl, sym, subst, arith, ◌∙◌, inl, inr}
 use Rattle.std.proofs.lemmas.Bool.{false≢true}
 use Rattle.rq_model.specs.declared.refusal.Refusal.{Refusal}
 use Rattle.rq_model.specs.declared.refusal.Refusal.TheVariants.{NoMemory, DiskRead, Damaged}
 use Rattle.rq_model.specs.declared.refusal.Damage.TheVariants.{Page}
-use Rattle.rq_disk.specs.Device.{PageAsk}
 use Rattle.rq_disk.specs.declared.device.PageDevice.{Ghosts}
 use Rattle.rq_page.specs.Sizes.{Sizes, directory_at, page_count, sender_count}
 use Rattle.rq_page.proofs.Addresses.{senders_have_slots}
-use Rattle.rq_pool.specs.Held.{Held, IsFramed}
 use Rattle.rq_pool.specs.Pooled.{Pooled}
-use Rattle.rq_pool.specs.Fetching.{Fetches, HasFailed, MayHaveRead}
+use Rattle.rq_pool.specs.Fetching.{Fetches, MayHaveRead}
 use Rattle.rq_pool.proofs.Fetched.{fails_then, over_stored, still_read}
 use Rattle.rq_content.specs.Read.{damaged_for, ReadStops}
 

@@ -11,14 +11,14 @@ use Rattle.rq_level.specs.declared.slots.Given.{Given}
 use Rattle.rq_level.specs.LevelState.{LevelState, KnowsStore, flag_at, is_cell_address, is_free_slot, noted, noted_cell, noted_in}
 use Rattle.rq_level.specs.Meaning.{AreOf, AreTold, kept_at, level_count, meaning_of}
 use Rattle.rq_level.specs.Given.{AreGiven}
-use Rattle.rq_level.proofs.Based.{noted_there}
+use Rattle.rq_level.proofs.Based.{holds_free, noted_there}
 use Rattle.rq_level.proofs.Noting.{is_cell, not_first}
 use Rattle.rq_level.proofs.EachLevel.{all_lawful}
 use Rattle.rq_txn.specs.Rows.{Row}
 use Rattle.rq_sound.specs.Levels.{KeepsCells}
 use Rattle.rq_sound.proofs.Gathering.{cell_of_store}
 use Rattle.rq_sound.proofs.KeptCells.{flag_same, free_by_byte}
-use Rattle.rq_planner.specs.Answered.{KnowsCells, KnowsThose}
+use Rattle.rq_planner.specs.Answered.{AreBelow, IsFreeCell, KnowsCells, KnowsThose}
 use Rattle.rq_planner.specs.Asked.{known}
 use Rattle.rq_planner.proofs.Told.{slot_is}
 
@@ -79,14 +79,28 @@ same_use false false e = refl
 pub free_is_told : (z : Sizes) (images : List (List ℕ)) (a : ℕ) → IsStoreSlot z a → IsCellAddress z a → is_free_slot (slot_at images a) ≡ not (is_used (slots_in z images a))
 free_is_told z images a store cell = free_by_byte z a (slot_at images a) cell ∙ ap (λ x. not (is_used x)) (sym (slot_is z images a store))
 
--- levels that know the slots of a store know them where the same cells are free, whatever else the slots hold
-pub knows_kept : (z : Sizes) (old new : List (List ℕ)) (levels : List LevelState) → AreFlaggedAlike z old new → KnowsCells z old levels → KnowsCells z new levels
-knows_kept z old new levels alike h = record {
-  again = λ i a lt store. notes_alike i (kept_at levels i) z a (slot_at new a) (slot_at old a) (h.ready i lt) (not_sizes z a store) (λ cell.
-      free_is_told z new a store cell ∙ ap not (same_use (is_used (slots_in z new a)) (is_used (slots_in z old a)) (alike a).0) ∙ sym (free_is_told z old a store cell)) ∙ h.again i a lt store;
-  all = h.all;
-  ready = h.ready;
-}
+module _ (z : Sizes) (old new : List (List ℕ)) (alike : AreFlaggedAlike z old new) where
+  same_free : (a : ℕ) → is_used (slots_in z new a) ≡ is_used (slots_in z old a)
+  same_free a = same_use (is_used (slots_in z new a)) (is_used (slots_in z old a)) (alike a).0
+
+  -- levels that know slots of a store know them where the same cells are free, whatever else the slots hold
+  pub those_kept : (Those : ℕ → Type 0) (levels : List LevelState) → ((a : ℕ) → Those a → IsStoreSlot z a) → KnowsThose Those z old levels → KnowsThose Those z new levels
+  those_kept Those levels stand h = record {
+    again = λ i a lt those.
+        let store : IsStoreSlot z a = stand a those in
+        notes_alike i (kept_at levels i) z a (slot_at new a) (slot_at old a) (h.ready i lt) (not_sizes z a store) (λ cell.
+        free_is_told z new a store cell ∙ ap not (same_free a) ∙ sym (free_is_told z old a store cell)) ∙ h.again i a lt those;
+    all = h.all;
+    ready = h.ready;
+  }
+
+  pub knows_kept : (levels : List LevelState) → KnowsCells z old levels → KnowsCells z new levels
+  knows_kept levels h = those_kept (IsStoreSlot z) levels (λ a store. store) h
+
+  pub free_kept : (a : ℕ) → IsFreeCell z old a → IsFreeCell z new a
+  free_kept a free =
+      let store : IsStoreSlot z a = cell_of_store z a free.0 in
+      (free.0, slot_is z new a store ∙ holds_free z a (slot_at new a) free.0 (free_is_told z new a store free.0 ∙ ap not (same_free a ∙ ap is_used free.1)))
 
 -- a slot was written, and no other
 pub knows_written : (z : Sizes) (images new : List (List ℕ)) (old now : List LevelState) (a : ℕ) (bytes : List ℕ) → IsStoreSlot z a → bytes ≡ slot_at new a → ((b : ℕ) → IsStoreSlot z b → b ≢ a → slot_at new b ≡ slot_at images b)
@@ -159,9 +173,6 @@ cells_known z images levels rows h = record {
       ap (λ n. noted_cell z k n (byte i)) (sym p.1) ∙ sym (noted_there z k (cell_at z i) (slot_at images (cell_at z i)) store.sizes p.0) ∙ notes_one z images levels (cell_at z i) h (cell_of_store z (cell_at z i) p.0)
 
 -- ---- all slots of a store, one after the other
-
-abbrev pub AreBelow : Sizes → ℕ → ℕ → Type 0
-AreBelow z bound a = IsStoreSlot z a × (a < bound)
 
 module _ (z : Sizes) (images : List (List ℕ)) where
   -- none are below the first

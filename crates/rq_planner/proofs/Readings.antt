@@ -1,5 +1,6 @@
 -- Calls that read pages on their way.
-use Rattle.std.proofs.Common.{◌≡◌, ◌⊎◌, ⊎_elim, ℕ, ◌+◌, ◌%◌, ◌^◌, ◌<◌, List, Result, Ok, Err, IfErr, refl, sym, ◌∙◌, ap, subst, inl, inr}
+use Rattle.std.specs.Prelude.{IfSome}
+use Rattle.std.proofs.Common.{Option, Some, None, ◌≡◌, ◌⊎◌, ⊎_elim, ℕ, ◌+◌, ◌%◌, ◌^◌, ◌<◌, List, Result, Ok, Err, IfErr, refl, sym, ◌∙◌, ap, subst, inl, inr}
 use Rattle.rq_model.specs.declared.refusal.Refusal.{Refusal}
 use Rattle.rq_model.specs.declared.refusal.Refusal.TheVariants as why
 use Rattle.rq_disk.specs.Device.{PageAsk}
@@ -8,12 +9,13 @@ use Rattle.rq_page.specs.Sizes.{Sizes, page_count}
 use Rattle.rq_level.specs.Lawful.{MayHaveNoPlan}
 use Rattle.rq_level.specs.LevelState.{LevelState}
 use Rattle.rq_pool.specs.Held.{Held, IsFramed}
+use Rattle.rq_pool.specs.Indexed.{AreFlaggedAlike}
 use Rattle.rq_pool.specs.Pooled.{Pooled}
-use Rattle.rq_pool.specs.Fetching.{AreAllFramed, HasFailed, HasReadFor, MayHaveRead, ReadFails, ReadsTruly}
+use Rattle.rq_pool.specs.Fetching.{AreAllFramed, HasFailed, HasReadFor, MayHaveRead, NotFetched, ReadFails, ReadsTruly}
 use Rattle.rq_pool.proofs.Fetched.{still_read, read_then}
-use Rattle.rq_planner.specs.Answered.{KnowsCells}
-use Rattle.rq_planner.specs.Lawful.{MayRefuse, unlatched_refusal, unread_refusal}
-use Rattle.rq_planner.proofs.Knowing.{knows_kept}
+use Rattle.rq_planner.specs.Answered.{AreBelow, IsFreeCell, KnowsBelow, KnowsCells}
+use Rattle.rq_planner.specs.Lawful.{IsUnread, MayRefuse, unlatched_refusal, unread_refusal}
+use Rattle.rq_planner.proofs.Knowing.{free_kept, knows_kept, those_kept}
 
 err_is : {X : Type 0} (e r : Refusal) → ◌≡◌ {A = Result X Refusal} (Err e) (Err r) → e ≡ r
 err_is e r is = cc
@@ -41,11 +43,26 @@ module _ {P : Type 0} (g : Ghosts P) where
   pub truly_done : {X : Type 0} (x : X) (old new : Pooled P) → AreTrue old new → ReadsTruly g old (Ok x) new
   truly_done x old new true = (true, λ is. cc is)
 
+  -- the sizes stay
+  pub sizes_read : (z : Sizes) (old new : Pooled P) → old.sizes ≡ z → MayHaveRead g old new → new.sizes ≡ z
+  sizes_read z old new is read = (read.kept 0).sizes ∙ is
+
+  alike_read : (z : Sizes) (old new : Pooled P) → old.sizes ≡ z → MayHaveRead g old new → AreFlaggedAlike z old.images new.images
+  alike_read z old new is read = subst (λ (y : Sizes). AreFlaggedAlike y old.images new.images) is (read.kept 0).flags
+
   -- levels go on knowing the slots
   pub knows_read : (old new : Pooled P) (levels : List LevelState) → MayHaveRead g old new → KnowsCells old.sizes old.images levels → KnowsCells new.sizes new.images levels
   knows_read old new levels read h =
       let kept = read.kept 0 in
-      subst (λ (z : Sizes). KnowsCells z new.images levels) (sym kept.sizes) (knows_kept old.sizes old.images new.images levels kept.flags h)
+      subst (λ (z : Sizes). KnowsCells z new.images levels) (sym kept.sizes) (knows_kept old.sizes old.images new.images kept.flags levels h)
+
+  pub below_read : (z : Sizes) (bound : ℕ) (old new : Pooled P) (levels : List LevelState) → old.sizes ≡ z → MayHaveRead g old new → KnowsBelow z old.images bound levels → KnowsBelow z new.images bound levels
+  below_read z bound old new levels is read h = those_kept z old.images new.images (alike_read z old new is read) (AreBelow z bound) levels (λ a below. below.0) h
+
+  -- a free cell stays one
+  pub free_read : (z : Sizes) (o : Option ℕ) (old new : Pooled P) → old.sizes ≡ z → MayHaveRead g old new → IfSome o (IsFreeCell z old.images) → IfSome o (IsFreeCell z new.images)
+  free_read z None old new is read h = tt
+  free_read z (Some a) old new is read h = free_kept z old.images new.images (alike_read z old new is read) a h
 
   -- a device that had not failed has failed since
   failed_then : {ask : PageAsk} (mid old new : P) → g.faults mid ≡ g.faults old → HasFailed g ask mid new → HasFailed g ask old new
@@ -99,6 +116,12 @@ module _ {P : Type 0} (g : Ghosts P) where
   pub fails_alone : (e : Refusal) (old new : Pooled P) → ReadFails g e old new → ReadFails g (unlatched_refusal e) old new
   fails_alone why.Latched old new fails = fails
   fails_alone _ old new fails = fails
+
+-- why a page was not read
+pub is_unread : {P : Type 0} (g : Ghosts P) (n : ℕ) (e : Refusal) (old new : P) → NotFetched g n e old new → IsUnread e
+is_unread g n why.DiskRead old new h = tt
+is_unread g n (why.Damaged x) old new h = tt
+is_unread g n _ old new h = absurd h
 
 -- a refusal that is passed on as another
 pub may_unread : (e : Refusal) → MayRefuse (unread_refusal e)

@@ -214,6 +214,13 @@ pub record KnowsThose (Those : ℕ → Type 0) (z : Sizes) (images : List (List 
 abbrev pub KnowsCells : Sizes → List (List ℕ) → List LevelState → Type 0
 KnowsCells z images levels = KnowsThose (IsStoreSlot z) z images levels
 
+-- they know those below an address
+abbrev pub AreBelow : Sizes → ℕ → ℕ → Type 0
+AreBelow z bound a = IsStoreSlot z a × (a < bound)
+
+abbrev pub KnowsBelow : Sizes → List (List ℕ) → (bound : ℕ) → List LevelState → Type 0
+KnowsBelow z images bound levels = KnowsThose (AreBelow z bound) z images levels
+
 -- a cell of the store, which is free
 abbrev pub IsFreeCell : Sizes → List (List ℕ) → ℕ → Type 0
 IsFreeCell z images a = IsCellAddress z a × (slots_in z images a ≡ Free)

@@ -45,6 +45,11 @@ unlatched_refusal why.Latched = why.Damaged (damage.Page 0)
 unlatched_refusal r = r
 
 -- why a page was not read: its device failed, or has lied
+abbrev pub IsUnread : Refusal → Type 0
+IsUnread why.DiskRead = Unit {0}
+IsUnread (why.Damaged x) = Unit {0}
+IsUnread r = ⊥
+
 abbrev pub unread_refusal : Refusal → Refusal
 unread_refusal why.DiskRead = why.DiskRead
 unread_refusal (why.Damaged x) = why.Damaged x

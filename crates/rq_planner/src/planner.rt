@@ -1,5 +1,5 @@
 //! Planners: the levels of a store, with the slots that they are given.
-ghost use Rattle.std.specs.Prelude.{◌≡◌, ◌≢◌, ◌<◌, ◌/◌, ℕ, IfErr, IfOk, IsTrue, Some, true, false, length, option_map, slice_set};
+ghost use Rattle.std.specs.Prelude.{◌≡◌, ◌≢◌, ◌<◌, ◌/◌, ℕ, IfErr, IfOk, IsTrue, OnOk, Some, true, false, length, option_map, slice_set};
 ghost use Rattle.rq_model.specs.declared.record.Deed.{Deed};
 ghost use Rattle.rq_model.specs.Deeds.{deed_by};
 ghost use Rattle.rq_model.specs.Vocabulary.{is_some};
@@ -14,13 +14,13 @@ ghost use Rattle.rq_planner.specs.Answered.{IsAnswered, IsAnsweredBack, IsPlanne
 ghost use Rattle.rq_planner.specs.Asked.{known_from};
 ghost use Rattle.rq_planner.specs.Backs.{IsJudgedBack, IsRefusedBack, IsTakingBack};
 ghost use Rattle.rq_planner.specs.Handed.{AreForStores};
-ghost use Rattle.rq_planner.specs.Lawful.{IsLawfulInverse, IsLawfulPlan, MayRefuse, unlatched_refusal};
+ghost use Rattle.rq_planner.specs.Lawful.{IsLawfulInverse, IsLawfulPlan, IsUnread, MayRefuse, unlatched_refusal};
 ghost use Rattle.rq_planner.specs.PageUndos.{NotPutBackFor, PutsBackWrite};
 
 use crate::handed::StoreLevels;
 use crate::page_undos::undo_write;
 use crate::planning::{plan, plan_inverse};
-use crate::telling::{tell, tell_store};
+use crate::telling::tell_store;
 use rq_disk::PageDevice;
 use rq_level::{Level, Levels, Op, Outcome, Plan, SlotWrite, Slots};
 use rq_model::record::{DeedBytes, Record, Slot};
@@ -67,12 +67,17 @@ impl<B: Level> Planner<B> {
         }
     }
 
-    /// Tells the levels a store in which nothing is under way.
-    pub fn tell<P: PageDevice>(&mut self, pages: &Pages<P>)
+    /// Tells the levels a store in which nothing is under way. Where that is refused they know some of its slots.
+    ///
+    /// # Errors
+    /// `DiskRead`; `Damaged` with a page that a device gave that has lied.
+    pub fn tell<P: PageDevice>(&mut self, pages: &mut Pages<P>) -> Result<(), Refusal>
         requires { AreForStores self.old }
-        ensures { KnowsCells pages.now.sizes pages.now.images self.new }
+        ensures read { HasReadFor P.PageDevice pages.old result pages.new }
+        ensures known { OnOk result (KnowsCells pages.new.sizes pages.new.images self.new) }
+        ensures causes { IfErr result IsUnread }
     {
-        tell_store(pages, &mut self.levels);
+        tell_store(pages, &mut self.levels)
     }
 
     /// A slot was written. Takes no memory.
@@ -87,7 +92,7 @@ impl<B: Level> Planner<B> {
         requires { IsStoreSlot pages.now.sizes at }
         ensures { AreTold at (slot_at pages.now.images at) self.old self.new }
     {
-        tell(pages, &mut self.levels, at);
+        self.levels.noted(at, pages.slot(at).unwrap());
     }
 
     /// The plan of an operation by its level, from the slots as they are. Its writes are put into `room`. What it chose is

@@ -1,13 +1,14 @@
 //! Tells levels of slots as they are.
-ghost use Rattle.std.specs.Prelude.{◌≡◌, ◌↔◌, ◌*◌, ◌<◌, ℕ, IfErr, IfOk, IfSome, IsTrue, Some, length, slice_get};
+ghost use Rattle.std.specs.Prelude.{◌≡◌, ◌↔◌, ◌*◌, ◌<◌, ℕ, IfErr, IfOk, IfSome, IsTrue, OnOk, Some, length, slice_get};
 ghost use Rattle.rq_page.specs.Cells.{free_bytes};
-ghost use Rattle.rq_page.specs.Sizes.{IsCellAddress, client_slot_at};
-ghost use Rattle.rq_page.specs.Slots.{Free};
+ghost use Rattle.rq_page.specs.Sizes.{IsCellAddress, cell_at, client_slot_at, directory_at};
 ghost use Rattle.rq_views.specs.InStore.{IsClientAddress};
-ghost use Rattle.rq_views.specs.Stored.{IsStoreSlot, slot_at, slots_in};
+ghost use Rattle.rq_views.specs.Stored.{IsStoreSlot, slot_at};
 ghost use Rattle.rq_level.specs.Meaning.{AreTold, kept_at, meaning_of};
-ghost use Rattle.rq_planner.specs.Answered.{IsFreeCell, IsOverFree, KnowsCells, MayBeTold};
+ghost use Rattle.rq_pool.specs.Fetching.{HasReadFor};
+ghost use Rattle.rq_planner.specs.Answered.{IsFreeCell, IsOverFree, KnowsBelow, KnowsCells, MayBeTold};
 ghost use Rattle.rq_planner.specs.Handed.{AreForStores};
+ghost use Rattle.rq_planner.specs.Lawful.{IsUnread};
 
 use rq_disk::PageDevice;
 use rq_level::{Level, Levels, Plan, SlotWrite};
@@ -71,26 +72,97 @@ fn is_free<P: PageDevice>(pages: &Pages<P>, at: Addr) -> bool
 
 /// Tells levels a store in which nothing is under way: the superblock's slot that tells the sizes, and then each slot of
 /// the directory pages, of the cells and of the tag pages.
-pub(crate) fn tell_store<P: PageDevice, B: Level>(pages: &Pages<P>, levels: &mut Levels<B>)
+///
+/// # Errors
+/// `DiskRead`; `Damaged` with a page that a device gave that has lied.
+pub(crate) fn tell_store<P: PageDevice, B: Level>(
+    pages: &mut Pages<P>,
+    levels: &mut Levels<B>,
+) -> Result<(), Refusal>
     requires { AreForStores levels.old }
-    ensures { KnowsCells pages.now.sizes pages.now.images levels.new }
+    ensures count { length levels.new ≡ length levels.old }
+    ensures read { HasReadFor P.PageDevice pages.old result pages.new }
+    ensures known { OnOk result (KnowsCells pages.new.sizes pages.new.images levels.new) }
+    ensures causes { IfErr result IsUnread }
 {
     tell_sizes(pages, levels);
+    match tell_senders(pages, levels) {
+        Ok(()) => {}
+        Err(refusal) => return Err(refusal),
+    }
+    match tell_cells(pages, levels) {
+        Ok(()) => {}
+        Err(refusal) => return Err(refusal),
+    }
+    tell_clients(pages, levels)
+}
+
+// Tells them each slot of the directory pages.
+fn tell_senders<P: PageDevice, B: Level>(
+    pages: &mut Pages<P>,
+    levels: &mut Levels<B>,
+) -> Result<(), Refusal>
+    requires { KnowsBelow pages.old.sizes pages.old.images (directory_at 0) levels.old }
+    ensures count { length levels.new ≡ length levels.old }
+    ensures read { HasReadFor P.PageDevice pages.old result pages.new }
+    ensures known { OnOk result (KnowsBelow pages.new.sizes pages.new.images (cell_at pages.new.sizes 0) levels.new) }
+    ensures causes { IfErr result IsUnread }
+{
     let layout = pages.layout();
     for sender in 0..layout.senders() {
-        tell(pages, levels, layout.directory_of(sender));
+        match tell(pages, levels, layout.directory_of(sender)) {
+            Ok(()) => {}
+            Err(refusal) => return Err(refusal),
+        }
     }
+    Ok(())
+}
+
+// Tells them each cell's slot.
+fn tell_cells<P: PageDevice, B: Level>(
+    pages: &mut Pages<P>,
+    levels: &mut Levels<B>,
+) -> Result<(), Refusal>
+    requires { KnowsBelow pages.old.sizes pages.old.images (cell_at pages.old.sizes 0) levels.old }
+    ensures count { length levels.new ≡ length levels.old }
+    ensures read { HasReadFor P.PageDevice pages.old result pages.new }
+    ensures known { OnOk result (KnowsBelow pages.new.sizes pages.new.images (client_slot_at pages.new.sizes 0) levels.new) }
+    ensures causes { IfErr result IsUnread }
+{
+    let layout = pages.layout();
     let empty = CellSlot::Free.encode();
     let mut free = free_from(pages, 0);
     for place in 0..layout.cell_slots() {
         let at = layout.cell_addr(place);
-        tell_cell(pages, levels, at, &free, &empty);
+        match tell_cell(pages, levels, at, &free, &empty) {
+            Ok(()) => {}
+            Err(refusal) => return Err(refusal),
+        }
         let next = free_behind(pages, &free, at, place + 1);
         free = next;
     }
+    Ok(())
+}
+
+// Tells them each slot of the tag pages.
+fn tell_clients<P: PageDevice, B: Level>(
+    pages: &mut Pages<P>,
+    levels: &mut Levels<B>,
+) -> Result<(), Refusal>
+    requires { KnowsBelow pages.old.sizes pages.old.images (client_slot_at pages.old.sizes 0) levels.old }
+    ensures count { length levels.new ≡ length levels.old }
+    ensures read { HasReadFor P.PageDevice pages.old result pages.new }
+    ensures known { OnOk result (KnowsCells pages.new.sizes pages.new.images levels.new) }
+    ensures causes { IfErr result IsUnread }
+{
+    let layout = pages.layout();
     for client in 0..layout.clients() {
-        tell(pages, levels, client_addr(&layout, client));
+        match tell(pages, levels, client_addr(&layout, client)) {
+            Ok(()) => {}
+            Err(refusal) => return Err(refusal),
+        }
     }
+    Ok(())
 }
 
 // Where a client's slot stands: on a tag page, and each client's by itself.
@@ -104,7 +176,7 @@ fn client_addr(layout: &Layout, client: u32) -> Addr
 
 // The first free cell whose place is this one or a later one.
 fn free_from<P: PageDevice>(pages: &Pages<P>, place: u32) -> Option<Addr>
-    ensures { IfSome result (λ a. slots_in pages.now.sizes pages.now.images a ≡ Free) }
+    ensures { IfSome result (IsFreeCell pages.now.sizes pages.now.images) }
 {
     pages.next_free(place)
 }
@@ -116,8 +188,8 @@ fn free_behind<P: PageDevice>(
     at: Addr,
     place: u32,
 ) -> Option<Addr>
-    requires { IfSome free.now (λ a. slots_in pages.now.sizes pages.now.images a ≡ Free) }
-    ensures { IfSome result (λ a. slots_in pages.now.sizes pages.now.images a ≡ Free) }
+    requires { IfSome free.now (IsFreeCell pages.now.sizes pages.now.images) }
+    ensures { IfSome result (IsFreeCell pages.now.sizes pages.now.images) }
 {
     if is_at(free, at) {
         return free_from(pages, place);
@@ -127,24 +199,27 @@ fn free_behind<P: PageDevice>(
 
 // Tells levels of a cell's slot as it is. That of the next free cell is not read: its bytes are given.
 fn tell_cell<P: PageDevice, B: Level>(
-    pages: &Pages<P>,
+    pages: &mut Pages<P>,
     levels: &mut Levels<B>,
     at: Addr,
     free: &Option<Addr>,
     empty: &Slot,
-)
-    requires cell { IsCellAddress pages.now.sizes at }
-    requires free { IfSome free.now (λ a. slots_in pages.now.sizes pages.now.images a ≡ Free) }
+) -> Result<(), Refusal>
+    requires cell { IsCellAddress pages.old.sizes at }
+    requires free { IfSome free.now (IsFreeCell pages.old.sizes pages.old.images) }
     requires empty { empty.now ≡ free_bytes }
-    ensures { AreTold at (slot_at pages.now.images at) levels.old levels.new }
+    ensures count { length levels.new ≡ length levels.old }
+    ensures read { HasReadFor P.PageDevice pages.old result pages.new }
+    ensures told { OnOk result (AreTold at (slot_at pages.new.images at) levels.old levels.new) }
+    ensures causes { IfErr result IsUnread }
 {
     if is_at(free, at) {
         pages.layout();
         Layout::slots_are_spellings();
         levels.noted(at, empty);
-    } else {
-        tell(pages, levels, at);
+        return Ok(());
     }
+    tell(pages, levels, at)
 }
 
 // Whether this is the next free cell's address.
@@ -168,10 +243,24 @@ fn tell_sizes<P: PageDevice, B: Level>(pages: &Pages<P>, levels: &mut Levels<B>)
     levels.noted(Addr::new(0, 1), superblock.slot(1));
 }
 
-/// Tells levels of a slot as it is.
-pub(crate) fn tell<P: PageDevice, B: Level>(pages: &Pages<P>, levels: &mut Levels<B>, at: Addr)
-    requires { IsStoreSlot pages.now.sizes at }
-    ensures { AreTold at (slot_at pages.now.images at) levels.old levels.new }
+// Tells levels of a slot as it is.
+fn tell<P: PageDevice, B: Level>(
+    pages: &mut Pages<P>,
+    levels: &mut Levels<B>,
+    at: Addr,
+) -> Result<(), Refusal>
+    requires { IsStoreSlot pages.old.sizes at }
+    ensures count { length levels.new ≡ length levels.old }
+    ensures read { HasReadFor P.PageDevice pages.old result pages.new }
+    ensures told { OnOk result (AreTold at (slot_at pages.new.images at) levels.old levels.new) }
+    ensures causes { IfErr result IsUnread }
 {
-    levels.noted(at, pages.slot(at).unwrap());
+    let _layout = pages.layout();
+    match pages.look(at.page() as u32) {
+        Ok(()) => {
+            levels.noted(at, pages.slot_at_hand(at));
+            Ok(())
+        }
+        Err(refusal) => Err(refusal),
+    }
 }
