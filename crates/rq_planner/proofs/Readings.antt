@@ -11,8 +11,8 @@ use Rattle.rq_level.specs.LevelState.{LevelState}
 use Rattle.rq_pool.specs.Held.{Held, IsFramed}
 use Rattle.rq_pool.specs.Indexed.{AreFlaggedAlike}
 use Rattle.rq_pool.specs.Pooled.{Pooled}
-use Rattle.rq_pool.specs.Fetching.{AreAllFramed, HasFailed, HasReadFor, MayHaveRead, NotFetched, ReadFails, ReadsTruly}
-use Rattle.rq_pool.proofs.Fetched.{still_read, read_then}
+use Rattle.rq_pool.specs.Fetching.{HasReadFor, IsReadAsStored, MayHaveRead, NotFetched, ReadFails, ReadsTruly}
+use Rattle.rq_pool.proofs.Fetched.{still_read, stored_after}
 use Rattle.rq_planner.specs.Answered.{AreBelow, IsFreeCell, KnowsBelow, KnowsCells}
 use Rattle.rq_planner.specs.Lawful.{IsUnread, MayRefuse, unlatched_refusal, unread_refusal}
 use Rattle.rq_planner.proofs.Knowing.{free_kept, knows_kept, those_kept}
@@ -21,26 +21,12 @@ err_is : {X : Type 0} (e r : Refusal) → ◌≡◌ {A = Result X Refusal} (Err 
 err_is e r is = cc
 
 module _ {P : Type 0} (g : Ghosts P) where
-  -- what was read is the store's
-  abbrev pub AreTrue : Pooled P → Pooled P → Type 0
-  AreTrue old new = AreAllFramed old ⊎ g.honest new.device
-
-  pub true_images : (old new : Pooled P) → MayHaveRead g old new → AreTrue old new → new.images ≡ old.images
-  true_images old new read true = ⊎_elim (λ all. ap (λ (p : Pooled P). p.images) (read.stood all)) (λ h. (read.kept 0).images h) true
-
-  -- so it is of a part of what was read
-  pub true_before : (old mid new : Pooled P) → MayHaveRead g mid new → AreTrue old new → AreTrue old mid
-  true_before old mid new read true = ⊎_elim (λ all. inl all) (λ h. inr (read.device.honest h)) true
-
-  pub true_after : (old mid new : Pooled P) → MayHaveRead g old mid → AreTrue old new → AreTrue mid new
-  true_after old mid new read true = ⊎_elim (λ all. inl (subst (λ (p : Pooled P). AreAllFramed p) (sym (read.stood all)) all)) (λ h. inr h) true
-
-  -- so it is where a refusal is passed on, perhaps as another; but one that tells of a failed read tells of it then too
+  -- What was read is the store's where a refusal is passed on, perhaps as another; but one that tells of a failed read tells of it then too
   pub truly_passed : {X Y : Type 0} (f : Refusal → Refusal) (e r : Refusal) (old mid new : Pooled P) → f why.DiskRead ≡ why.DiskRead → r ≡ f e → MayHaveRead g old mid → ReadsTruly {X = X} g old (Err r) new → ReadsTruly {X = Y} g mid (Err e) new
-  truly_passed f e r old mid new same is read truly = (true_after old mid new read truly.0, λ failed. truly.1 (ap Err (is ∙ ap f (err_is e why.DiskRead failed) ∙ same)))
+  truly_passed f e r old mid new same is read truly = (stored_after g old mid new read truly.0, λ failed. truly.1 (ap Err (is ∙ ap f (err_is e why.DiskRead failed) ∙ same)))
 
   -- an answer that is none is no failed read
-  pub truly_done : {X : Type 0} (x : X) (old new : Pooled P) → AreTrue old new → ReadsTruly g old (Ok x) new
+  pub truly_done : {X : Type 0} (x : X) (old new : Pooled P) → IsReadAsStored g old new → ReadsTruly g old (Ok x) new
   truly_done x old new true = (true, λ is. cc is)
 
   -- the sizes stay
@@ -63,32 +49,6 @@ module _ {P : Type 0} (g : Ghosts P) where
   pub free_read : (z : Sizes) (o : Option ℕ) (old new : Pooled P) → old.sizes ≡ z → MayHaveRead g old new → IfSome o (IsFreeCell z old.images) → IfSome o (IsFreeCell z new.images)
   free_read z None old new is read h = tt
   free_read z (Some a) old new is read h = free_kept z old.images new.images (alike_read z old new is read) a h
-
-  -- a device that had not failed has failed since
-  failed_then : {ask : PageAsk} (mid old new : P) → g.faults mid ≡ g.faults old → HasFailed g ask mid new → HasFailed g ask old new
-  failed_then mid old new same f = record {
-    once = subst (λ (n : ℕ). g.faults new ≡ (n + 1) % 2 ^ 64) same f.once;
-    before = f.before;
-    none = f.none ∙ same;
-    excused = f.excused;
-  }
-
-  fails_then : (e : Refusal) (old mid new : Pooled P) → MayHaveRead g old mid → g.faults mid.device ≡ g.faults old.device → ReadFails g e mid new → ReadFails g e old new
-  fails_then why.DiskRead old mid new read same fails = (
-    record {
-      page = fails.0.page;
-      behind = fails.0.behind;
-      within = subst (λ (z : Sizes). fails.0.page < page_count z) (read.kept 0).sizes fails.0.within;
-      outside = λ framed. fails.0.outside (subst (λ (f : List Held). IsFramed f fails.0.page) (sym read.frames) framed);
-    },
-    failed_then mid.device old.device new.device same fails.1,
-  )
-  fails_then _ old mid new read same fails = fails ∙ same
-
-  -- some were read, and then some on the way of a call
-  pub reads_then : {X : Type 0} (r : Result X Refusal) (old mid new : Pooled P) → MayHaveRead g old mid → g.faults mid.device ≡ g.faults old.device → HasReadFor g mid r new → HasReadFor g old r new
-  reads_then (Ok x) old mid new read same f = record { read = read_then g old mid new read f.read; counted = f.counted ∙ same; refused = tt }
-  reads_then (Err e) old mid new read same f = record { read = read_then g old mid new read f.read; counted = tt; refused = fails_then e old mid new read same f.refused }
 
   not_failed : (e : Refusal) (old new : Pooled P) → MayHaveNoPlan e → g.faults new.device ≡ g.faults old.device → ReadFails g e old new
   not_failed why.NoMemory old new h same = same

@@ -6,7 +6,8 @@ use Rattle.rq_planner.specs.Answered.{IsGivenMore, IsWithheld, wants_of}
 use Rattle.rq_planner.specs.Asked.{known, known_from}
 use Rattle.rq_planner.proofs.Gathered.{fewer_left, gathered_more, given_more, wanted_more, wish_slot, withheld}
 use Rattle.rq_planner.proofs.Knowing.{of_store}
-use Rattle.rq_planner.proofs.Readings.{reads_then, true_before, true_images, truly_passed}
+use Rattle.rq_pool.proofs.Fetched.{reads_then, stored_before, stored_images}
+use Rattle.rq_planner.proofs.Readings.{truly_passed}
 use Rattle.rq_planner.proofs.gathering.gather.Goals as goal
 
 pub want-requires-clause-given : goal.want-requires-clause-given
@@ -34,8 +35,8 @@ loop-at-preserved g c =
       wanted = wanted_more (wants_of levels n c.args.op.now) old.sizes new.images at slots given c.loop-at.invariant.wanted next more;
       given = given_more old.sizes new.images at slots given c.loop-at.invariant.given more;
       gathered = λ true.
-          gathered_more s (wants_of levels n) c.args.op.now at slots given next (c.loop-at.invariant.gathered (true_before g.P.PageDevice old c.loop-at.pages new c.give.ensures.read.read true))
-          (subst (λ (i : List (List ℕ)). IsGivenMore old.sizes i at slots given) (true_images g.P.PageDevice old new read true) more) c.in-Ok.ensures.unlatched;
+          gathered_more s (wants_of levels n) c.args.op.now at slots given next (c.loop-at.invariant.gathered (stored_before g.P.PageDevice old c.loop-at.pages new c.give.ensures.read.read true))
+          (subst (λ (i : List (List ℕ)). IsGivenMore old.sizes i at slots given) (stored_images g.P.PageDevice old new read true) more) c.in-Ok.ensures.unlatched;
     }
 
 pub loop-at-smaller : goal.loop-at-smaller
@@ -55,9 +56,9 @@ returns-in-Err-clause-refusal g c truly =
     let levels = c.args.levels.now in
     let n = c.args.op.now.level in
     let next : wants_of levels n c.args.op.now c.loop-at.slots ≡ Some at = ap (λ i. wants_of levels i c.args.op.now c.loop-at.slots) (sym c.level.ensures) ∙ wish_slot _ c.want.result at c.want.ensures c.in-Slot.is in
-    let before = true_before g.P.PageDevice old mid c.give.new.pages c.give.ensures.read.read truly.0 in
+    let before = stored_before g.P.PageDevice old mid c.give.new.pages c.give.ensures.read.read truly.0 in
     let held : IsWithheld (known_from mid rows) at c.in-Err.refusal =
     c.in-Err.ensures.withheld (truly_passed g.P.PageDevice (λ e. e) c.in-Err.refusal c.in-Err.refusal old mid c.give.new.pages refl refl c.loop-at.invariant.read truly) in
     withheld (known_from old rows) (wants_of levels n) c.args.op.now (λ given answer. ⊥) c.loop-at.slots at c.in-Err.refusal (c.loop-at.invariant.gathered before) next
     (subst (λ (z : Sizes). IsWithheld (known z old.images rows) at c.in-Err.refusal) (c.loop-at.invariant.read.kept 0).sizes
-    (subst (λ (i : List (List ℕ)). IsWithheld (known mid.sizes i rows) at c.in-Err.refusal) (true_images g.P.PageDevice old mid c.loop-at.invariant.read before) held))
+    (subst (λ (i : List (List ℕ)). IsWithheld (known mid.sizes i rows) at c.in-Err.refusal) (stored_images g.P.PageDevice old mid c.loop-at.invariant.read before) held))

@@ -4,7 +4,7 @@ use Rattle.rq_level.specs.Given.{AreGiven}
 use Rattle.rq_pool.specs.Fetching.{MayHaveRead}
 use Rattle.rq_planner.specs.Answered.{HasGathered, wants_of}
 use Rattle.rq_planner.specs.Asked.{known_from}
-use Rattle.rq_planner.proofs.Readings.{AreTrue}
+use Rattle.rq_pool.specs.Fetching.{IsReadAsStored}
 use Rattle.rq_planner.proofs.gathering.gather.Given as goal
 
 -- What was given so far was wanted, of the store's slots. Where what was read is true, each is as it is, of pages that nobody has
@@ -15,7 +15,7 @@ invariant-loop-at g l = record {
   counted : g.P.PageDevice.faults l.pages.device ≡ g.P.PageDevice.faults l.fn.pages.device;
   wanted : AreWanted (wants_of l.levels l.op.level l.op) [] l.slots;
   given : AreGiven l.fn.pages.sizes l.slots;
-  gathered : AreTrue g.P.PageDevice l.fn.pages l.pages → HasGathered (known_from l.fn.pages l.transactions) (wants_of l.levels l.op.level) l.op l.slots;
+  gathered : IsReadAsStored g.P.PageDevice l.fn.pages l.pages → HasGathered (known_from l.fn.pages l.transactions) (wants_of l.levels l.op.level) l.op l.slots;
 }
 
 abbrev pub decreases-loop-at : goal.decreases-loop-at

@@ -6,7 +6,8 @@ use Rattle.rq_level.specs.Meaning.{AreTold}
 use Rattle.rq_pool.proofs.Fetched.{read_then, still_read}
 use Rattle.rq_planner.specs.Answered.{IsFreeCell, KnowsBelow}
 use Rattle.rq_planner.proofs.Knowing.{clients_behind, next_below}
-use Rattle.rq_planner.proofs.Readings.{below_read, free_read, reads_then, sizes_read}
+use Rattle.rq_pool.proofs.Fetched.{reads_then}
+use Rattle.rq_planner.proofs.Readings.{below_read, free_read, sizes_read}
 use Rattle.rq_planner.proofs.telling.tell_cells.Goals as goal
 
 pub loop-place-init : goal.loop-place-init

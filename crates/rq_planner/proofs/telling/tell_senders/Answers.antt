@@ -5,7 +5,8 @@ use Rattle.rq_level.specs.Meaning.{AreTold}
 use Rattle.rq_pool.proofs.Fetched.{read_then, still_read}
 use Rattle.rq_planner.specs.Answered.{KnowsBelow}
 use Rattle.rq_planner.proofs.Knowing.{cells_behind, next_below}
-use Rattle.rq_planner.proofs.Readings.{below_read, reads_then}
+use Rattle.rq_pool.proofs.Fetched.{reads_then}
+use Rattle.rq_planner.proofs.Readings.{below_read}
 use Rattle.rq_planner.proofs.telling.tell_senders.Goals as goal
 
 pub loop-sender-init : goal.loop-sender-init

@@ -1,7 +1,7 @@
 use Rattle.std.proofs.Common.{Err, arith, ◌∙◌}
 use Rattle.rq_pool.proofs.Fetched.{read_then}
 use Rattle.rq_planner.proofs.Knowing.{none_below}
-use Rattle.rq_planner.proofs.Readings.{reads_then}
+use Rattle.rq_pool.proofs.Fetched.{reads_then}
 use Rattle.rq_planner.proofs.telling.tell_store.Goals as goal
 
 pub tell_senders-requires : goal.tell_senders-requires
