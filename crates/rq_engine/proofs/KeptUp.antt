@@ -1,5 +1,5 @@
 -- Open stores that are kept up.
-use Rattle.std.proofs.Common.{◌≡◌, ℕ, Bool, true, false, List, refl, sym, ap, subst, ◌∙◌, ⊎_elim}
+use Rattle.std.proofs.Common.{◌≡◌, ℕ, Bool, true, false, List, refl, sym, ap, subst, ◌∙◌, ⊎_elim, Result, Ok, Err, IfErr, ◌+◌, ◌%◌, ◌^◌, ◌<◌}
 use Rattle.rq_disk.specs.declared.device.LogDevice as log_device
 use Rattle.rq_disk.specs.declared.device.PageDevice as page_device
 use Rattle.rq_model.specs.declared.refusal.Refusal.{Refusal}
@@ -11,21 +11,27 @@ use Rattle.rq_model.specs.Tests.{NoneHolds}
 use Rattle.rq_content.specs.Read.{IsNoDamage, StopsFor}
 use Rattle.rq_groups.specs.declared.End.{End}
 use Rattle.rq_groups.specs.Sides.{with_end}
-use Rattle.rq_page.specs.Sizes.{Sizes}
-use Rattle.rq_planner.specs.Answered.{IsDeedFor, RefusesPlan}
+use Rattle.rq_page.specs.Sizes.{Sizes, page_count}
+use Rattle.rq_planner.specs.Answered.{IsDeedFor}
 use Rattle.rq_planner.specs.Asked.{Task}
-use Rattle.rq_pool.proofs.Fetched.{read_none}
-use Rattle.rq_pool.proofs.KeptUp.{kept_still}
+use Rattle.rq_pool.proofs.Fetched.{read_none, read_then, still_read}
+use Rattle.rq_pool.proofs.KeptUp.{kept_still, kept_then}
 use Rattle.rq_pool.specs.Fetching.{AreAllFramed, MayHaveRead}
 use Rattle.rq_pool.specs.Pooled.{Pooled}
 use Rattle.rq_store.specs.State.{State}
 use Rattle.rq_txn.specs.Rows.{Row, change_row, row_started}
 use Rattle.rq_engine.specs.Answers.{HasNothingUnderWay}
-use Rattle.rq_engine.specs.KeptUp.{AreButRead, KeepsDevices, KeepsUp, RefusalCounts, RefusedBehind, RefusedButRead, starts_one, with_images_of}
+use Rattle.rq_engine.specs.KeptUp.{AreButRead, KeepsDevices, KeepsUp, RefusalCounts, RefusedBehind, RefusedButRead, starts_one, with_images_of, HasReadPages, HasReadSoFar, HasTried, StopsStart, AnswerCounts}
 use Rattle.rq_engine.specs.Lists.{DoesTask, IsStarted}
 use Rattle.rq_engine.specs.Opened.{AreHonest, LeavesDevices, OpenStore, pooled}
-use Rattle.rq_engine.specs.Plans.{Planned, under_plan}
+use Rattle.rq_engine.specs.Plans.{Planned, under_plan, is_latched}
 use Rattle.rq_engine.specs.Tested.{tested}
+use Rattle.std.specs.Prelude.{OnErr, OnOk}
+use Rattle.std.proofs.lemmas.Bool.{false≢true}
+use Rattle.rq_groups.specs.Ends.{HeldEnds}
+use Rattle.rq_level.specs.Lawful.{MayHaveNoPlan}
+use Rattle.rq_pool.specs.Held.{Held, IsFramed}
+use Rattle.rq_pool.specs.KeptUp.{IsKeptUp}
 
 -- lists but for images, over images that stayed
 pub but_same : (lists new : State) → AreButRead lists new → new.images ≡ lists.images → new ≡ lists
@@ -49,38 +55,116 @@ module _ {P L : Type 0} (g : page_device.Ghosts P) where
   pub up_honest : (l : log_device.Ghosts L) (old new : OpenStore P L) → KeepsDevices g old new → AreHonest g l new → AreHonest g l old
   up_honest l old new k h = (k.0.honest h.0, subst (λ (d : L). l.honest d) k.1 h.1)
 
-  -- a device counts no failure where a plan was refused of what stands in memory
-  pub planned_counts : (IsHeld : Type 0) (r : Refusal) → RefusesPlan IsHeld r → (old new : OpenStore P L) → new ≡ old → RefusalCounts g r old new
-  planned_counts IsHeld why.NoMemory causes old new is = ap (λ (s : OpenStore P L). g.faults s.pages) is
-  planned_counts IsHeld why.Latched causes old new is = ap (λ (s : OpenStore P L). g.faults s.pages) is
-  planned_counts IsHeld (why.Damaged d) causes old new is = ap (λ (s : OpenStore P L). g.faults s.pages) is
-  planned_counts IsHeld _ causes old new is = absurd causes
+  -- ---- pages that were perhaps read
 
-  -- a start, whose plan read no device: it changes nothing but lists
-  pub devices_begun : (old new : OpenStore P L) (rows : _) (ends : _) (cells : _) → LeavesDevices old new → new.state ≡ record old.state { rows = rows; ends = ends; cells_in_use = cells } → KeepsDevices g old new
-  devices_begun old new rows ends cells left is = devices_still old new left (ap (λ (s : State). s.sizes) is) (ap (λ (s : State). s.images) is)
+  -- nothing was
+  pub pages_still : (old new : OpenStore P L) → new ≡ old → HasReadPages g old new
+  pages_still old new same = subst (λ (s : OpenStore P L). HasReadPages g old s) (sym same) (record { pages = still_read g (pooled old); lists = refl; log = refl; replacing = refl })
+
+  -- some were, and then some
+  pub pages_then : (old mid new : OpenStore P L) → HasReadPages g old mid → HasReadPages g mid new → HasReadPages g old new
+  pages_then old mid new a b = record {
+    pages = read_then g (pooled old) (pooled mid) (pooled new) a.pages b.pages;
+    lists = b.lists ∙ ap (λ (s : State). record s { images = new.state.images }) a.lists;
+    log = b.log ∙ a.log;
+    replacing = b.replacing ∙ a.replacing;
+  }
+
+  pub so_far_then : (old mid new : OpenStore P L) → HasReadSoFar g old mid → HasReadSoFar g mid new → HasReadSoFar g old new
+  so_far_then old mid new a b = (pages_then old mid new a.0 b.0, b.1 ∙ a.1)
+
+  pub read_devices : (old new : OpenStore P L) → HasReadPages g old new → KeepsDevices g old new
+  read_devices old new h = (h.pages.kept old.state.forced, h.log, h.replacing)
+
+  -- over an honest device the lists are as they were
+  pub read_state : (old new : OpenStore P L) → HasReadPages g old new → g.honest new.pages → new.state ≡ old.state
+  read_state old new h honest = but_same old.state new.state h.lists ((h.pages.kept 0).images honest)
+
+  -- what was done then is done of the pages as they were
+  pub devices_then : (old mid new : OpenStore P L) → HasReadPages g old mid → KeepsDevices g mid new → KeepsDevices g old new
+  devices_then old mid new a b =
+      let forced : mid.state.forced ≡ old.state.forced = ap (λ (s : State). s.forced) a.lists in
+      (kept_then g old.state.forced (pooled old) (pooled mid) (pooled new) (a.pages.kept old.state.forced) (subst (λ (n : ℕ). IsKeptUp g n (pooled mid) (pooled new)) forced b.0), b.1 ∙ a.log, b.2 ∙ a.replacing)
+
+  -- and a failure is the first
+  pub counts_then : (old mid new : OpenStore P L) → HasReadSoFar g old mid → (r : Refusal) → StopsStart r → RefusalCounts g r mid new → RefusalCounts g r old new
+  counts_then old mid new a why.NoMemory stops c = c ∙ a.1
+  counts_then old mid new a why.Latched stops c = c ∙ a.1
+  counts_then old mid new a (why.Damaged d) stops c = c ∙ a.1
+  counts_then old mid new a why.DiskRead stops c = (
+    record {
+      page = c.0.page;
+      behind = c.0.behind;
+      within = subst (λ (z : Sizes). c.0.page < page_count z) (a.0.pages.kept 0).sizes c.0.within;
+      outside = λ framed. c.0.outside (subst (λ (f : List Held). IsFramed f c.0.page) (sym a.0.pages.frames) framed);
+    },
+    record { once = c.1.once ∙ ap (λ n. (n + 1) % 2 ^ 64) a.1; before = c.1.before; none = c.1.none ∙ a.1; excused = c.1.excused },
+  )
+  counts_then old mid new a _ stops c = absurd stops
+
+  -- ---- starts
+
+  module _ {X : Type 0} where
+    -- what was refused has begun nothing
+    pub tried_refused : (old new : OpenStore P L) (HasBegun : State → Type 0) (r : Refusal) → HasReadPages g old new → RefusalCounts g r old new → StopsStart r → HasTried {X = X} g old HasBegun (Err r) new
+    tried_refused old new HasBegun r read counts causes = record { devices = read_devices old new read; counts = counts; begun = tt; read = read; causes = causes }
+
+    -- What was planned begins, or memory is wanting: it changes rows and ends alone.
+    pub tried_planned : (old mid new : OpenStore P L) (HasBegun : State → Type 0) (rows : List Row → List Row) (ends : HeldEnds → HeldEnds) → HasReadSoFar g old mid → HasBegun (record old.state { rows = rows old.state.rows; ends = ends old.state.ends })
+        → (answer : Result X Refusal) → OnOk answer (new.state ≡ record mid.state { rows = rows mid.state.rows; ends = ends mid.state.ends }) → LeavesDevices mid new → IfErr answer (λ r. r ≡ why.NoMemory) → OnErr answer (new ≡ mid) → HasTried g old HasBegun answer new
+    tried_planned old mid new HasBegun rows ends read begun (Ok x) is left memory same = record {
+      devices = devices_then old mid new read.0 (devices_still mid new left (ap (λ (s : State). s.sizes) is) (ap (λ (s : State). s.images) is));
+      counts = ap g.faults left.0 ∙ read.1;
+      begun = subst HasBegun (sym (ap (with_images_of old.state) is ∙ ap (λ (s : State). record s { rows = rows s.rows; ends = ends s.ends; images = old.state.images }) read.0.lists)) begun;
+      read = tt;
+      causes = tt;
+    }
+    tried_planned old mid new HasBegun rows ends read begun (Err r) is left memory same =
+        let back : HasReadPages g old new = subst (λ (s : OpenStore P L). HasReadPages g old s) (sym same) read.0 in
+        subst (λ (e : Refusal). HasTried {X = X} g old HasBegun (Err e) new) (sym memory) (tried_refused old new HasBegun why.NoMemory back (ap g.faults left.0 ∙ read.1) tt)
+
+    -- a start that is tried behind others
+    pub tried_then : (old mid new : OpenStore P L) (A B : State → Type 0) → HasReadSoFar g old mid → ((s : State) → A (with_images_of mid.state s) → B (with_images_of old.state s)) → (answer : Result X Refusal) → HasTried g mid A answer new → HasTried g old B answer new
+    tried_then old mid new A B read same (Ok x) h = record { devices = devices_then old mid new read.0 h.devices; counts = h.counts ∙ read.1; begun = same new.state h.begun; read = tt; causes = tt }
+    tried_then old mid new A B read same (Err r) h = tried_refused old new B r (pages_then old mid new read.0 h.read) (counts_then old mid new read r h.causes h.counts) h.causes
+
+    -- one that latches hold up has read pages, and that is all
+    pub tried_latched : (old new : OpenStore P L) (A : State → Type 0) (answer : Result X Refusal) → is_latched answer ≡ true → HasTried g old A answer new → HasReadSoFar g old new
+    tried_latched old new A (Ok x) latched h = absurd (false≢true latched)
+    tried_latched old new A (Err why.Latched) latched h = (h.read, h.counts)
+    tried_latched old new A (Err _) latched h = absurd (false≢true latched)
+
+    pub tried_held : (old new : OpenStore P L) (A : State → Type 0) → HasReadSoFar g old new → HasTried {X = X} g old A (Err why.Latched) new
+    tried_held old new A read = tried_refused old new A why.Latched read.0 read.1 tt
+
+-- what memory, a latch or damage refuses where nothing was read
+pub counts_still : {P L X : Type 0} (g : page_device.Ghosts P) (old new : OpenStore P L) → new ≡ old → (answer : Result X Refusal) → IfErr answer MayHaveNoPlan → AnswerCounts g answer old new
+counts_still g old new same (Ok x) refused = ap (λ (s : OpenStore _ _). g.faults s.pages) same
+counts_still g old new same (Err why.NoMemory) refused = ap (λ (s : OpenStore _ _). g.faults s.pages) same
+counts_still g old new same (Err why.Latched) refused = ap (λ (s : OpenStore _ _). g.faults s.pages) same
+counts_still g old new same (Err (why.Damaged d)) refused = ap (λ (s : OpenStore _ _). g.faults s.pages) same
+counts_still g old new same (Err _) refused = absurd refused
+
+-- it is refused behind its tests
+pub tried_leaves : {P L : Type 0} (old new : OpenStore P L) (c : Call) → starts_one c ≡ true → NoneHolds (tested old.state c) → (r : Refusal) → StopsStart r → AreButRead old.state new.state → RefusedButRead c old r new
+tried_leaves old new c starts passed r causes lists = subst (λ (b : Bool). RefusedBehind b (tested old.state c) old r new) (sym starts) (at (tested old.state c) passed r causes) where
+  at : (tests : List (Bool × Refusal)) → NoneHolds tests → (r : Refusal) → StopsStart r → RefusedBehind true tests old r new
+  at tests passed why.NoMemory causes = (passed, lists)
+  at tests passed why.Latched causes = (passed, lists)
+  at tests passed why.DiskRead causes = (passed, lists)
+  at tests passed (why.Damaged d) causes = (passed, lists)
+  at tests passed _ causes = absurd causes
 
 -- what has begun: it is to do what was asked
 pub begun_by : (s : State) (t : Txn) (n : ℕ) (end : End) (cells : ℕ) (task : Task) (plan : Planned) (new : State) → HasNothingUnderWay s t n → IsDeedFor task plan.deed
-    → new ≡ record s { rows = change_row t (row_started (under_plan n plan)) s.rows; ends = with_end t end s.ends; cells_in_use = cells } → IsStarted s (record { txn = t; number = n }) end cells (DoesTask task) (with_images_of s new)
+    → new ≡ record s { rows = change_row t (row_started (under_plan n plan)) s.rows; ends = with_end t end s.ends; cells_in_use = cells } → IsStarted s (record { txn = t; number = n }) end cells (DoesTask task) new
 begun_by s t n end cells task plan new ready asked is = record {
   under = under_plan n plan;
   number = refl;
   ready = ready;
   plan = (refl, plan.deed, refl, asked);
-  lists = ap (with_images_of s) is;
+  lists = is;
 }
-
--- what a refusal of a plan leaves that read no device
-module _ {P L : Type 0} (old new : OpenStore P L) where
-  plan_leaves : (tests : List (Bool × Refusal)) → NoneHolds tests → (IsHeld : Type 0) (r : Refusal) → RefusesPlan IsHeld r → new ≡ old → RefusedBehind true tests old r new
-  plan_leaves tests passed IsHeld why.NoMemory causes is = (passed, subst (λ (s : OpenStore P L). AreButRead old.state s.state) (sym is) refl)
-  plan_leaves tests passed IsHeld why.Latched causes is = (passed, subst (λ (s : OpenStore P L). AreButRead old.state s.state) (sym is) refl)
-  plan_leaves tests passed IsHeld (why.Damaged d) causes is = (passed, subst (λ (s : OpenStore P L). AreButRead old.state s.state) (sym is) refl)
-  plan_leaves tests passed IsHeld _ causes is = absurd causes
-
-  pub planned_leaves : (c : Call) → starts_one c ≡ true → NoneHolds (tested old.state c) → (IsHeld : Type 0) (r : Refusal) → RefusesPlan IsHeld r → new ≡ old → RefusedButRead c old r new
-  planned_leaves c starts passed IsHeld r causes is = subst (λ (b : Bool). RefusedBehind b (tested old.state c) old r new) (sym starts) (plan_leaves (tested old.state c) passed IsHeld r causes is)
 
 -- what stopped a content leaves, behind its tests
 module _ {P L : Type 0} (g : page_device.Ghosts P) (rows : List Row) where

@@ -1,6 +1,6 @@
 -- What the level plans, as the engine's starts have it.
-use Rattle.std.proofs.Common.{◌≡◌, ◌≢◌, ℕ, ◌+◌, ◌/◌, ◌%◌, ◌<◌, ◌≤◌, cond, nat_eq, nat_lt, List, [], ◌∷◌, length, refl, sym, ◌∙◌, ap, subst, inl, inr, true, false, Option, Some, None, Result, Ok, Err, arith}
-use Rattle.std.specs.Prelude.{IfErr, OnErr, OnOk}
+use Rattle.std.proofs.Common.{◌≡◌, ◌≢◌, ℕ, ◌+◌, ◌/◌, ◌%◌, ◌<◌, ◌≤◌, cond, nat_eq, nat_lt, List, [], ◌∷◌, length, refl, sym, ◌∙◌, ap, subst, inl, inr, true, false, Option, Some, None, Result, Ok, Err, arith, Bool}
+use Rattle.std.specs.Prelude.{IfErr, OnOk, IfOk}
 use Rattle.std.proofs.lemmas.Bool.{cases_Bool, false_from_ne_true, ltb-true, or_cases, or_left, false≢true, true≢false}
 use Rattle.rq_model.specs.declared.record.Deed.{Deed}
 use Rattle.rq_model.specs.declared.refusal.Refusal.{Refusal}
@@ -12,7 +12,7 @@ use Rattle.rq_model.specs.Deeds.{deed_by, spelled_deed, TellsItself}
 use Rattle.rq_model.proofs.Deeds.{told_by_its_level}
 use Rattle.rq_model.specs.Commits.{op_of}
 use Rattle.rq_model.specs.Content.{said}
-use Rattle.rq_model.specs.Tests.{log_full, undo_cost}
+use Rattle.rq_model.specs.Tests.{undo_cost}
 use Rattle.rq_page.specs.declared.cell.Cell.{Cell}
 use Rattle.rq_page.specs.declared.cell.CellSlot.{CellSlot}
 use Rattle.rq_page.specs.declared.layout.PageKind.{PageKind}
@@ -34,28 +34,34 @@ use Rattle.rq_groups.specs.declared.End.TheVariants.{Receiving}
 use Rattle.rq_level.specs.ChainPlans.{TellsDamage}
 use Rattle.rq_level.specs.declared.writes.Plan.{Plan}
 use Rattle.rq_level.specs.declared.writes.SlotWrite.{SlotWrite}
-use Rattle.rq_level.specs.Ops.{Tagging}
+use Rattle.rq_level.specs.Ops.{Tagging, Job}
 use Rattle.rq_level.specs.Ops.Doing.{Send, Receive, Close}
 use Rattle.rq_txn.specs.declared.Aim.TheVariants as aims
 use Rattle.rq_txn.specs.Rows.{latched_in}
 use Rattle.rq_txn.specs.Told.{IsTold}
 use Rattle.rq_store.specs.Plans.{IsSendPlan, IsTakePlan, WaitsFor}
-use Rattle.rq_store.specs.State.{State, ledger_of}
+use Rattle.rq_store.specs.State.{State}
 use Rattle.rq_sound.specs.Groups.{slots_now}
 use Rattle.rq_sound.specs.Plans.{IsMarking, IsPlannedFrom, IsReceive, IsSend}
 use Rattle.rq_sound.specs.Sound.{IsSound}
-use Rattle.rq_planner.specs.Answered.{IsDeedFor, IsHeldUp, IsPlanOf, MayBeAsked, RefusesPlan}
+use Rattle.rq_planner.specs.Answered.{IsDeedFor, IsHeldUp, IsPlanOf, MayBeAsked, RefusesPlan, deed_of, IsWithheld, Wants, IsAnswered, ComesFrom, MayPlan, MayUndo, wants_of, level_back, IsPlanned, IsPlanBack}
 use Rattle.rq_planner.specs.Asked.{Asked, IsTaskOf, Task, task_level}
-use Rattle.rq_planner.specs.Asked.Asked.{Do}
+use Rattle.rq_planner.specs.Asked.Asked.{Do, Undo}
 use Rattle.rq_planner.specs.Asked.Task.{Chain, Tag}
-use Rattle.rq_planner.specs.Lawful.{IsLawfulPlan}
+use Rattle.rq_planner.specs.Lawful.{IsLawfulPlan, IsLawfulInverse}
 use Rattle.rq_engine.specs.Closes.{IsClosePlan, close_latched}
 use Rattle.rq_engine.specs.Marks.{IsMarkPlan, mark_latched}
 use Rattle.rq_engine.specs.Earlier.{IsEarlier, on}
-use Rattle.rq_engine.specs.Plans.{AreHeldUp, ComesOf, HasStarted, IsDeedPlan, IsStartOf, IsTakeOf, IsWithin, Planned, is_latch, is_latched, known_part, planned_of, records_of, under_plan}
-use Rattle.rq_engine.specs.Sends.{HasRoom, take_latched}
+use Rattle.rq_engine.specs.Plans.{AreHeldUp, ComesOf, HasStarted, IsDeedPlan, IsStartOf, IsTakeOf, IsWithin, Planned, is_latch, is_latched, known_part, planned_of, records_of, under_plan, LevelsAnswer, to_job, to_undo, IsByLatches, IsOwnPlan}
+use Rattle.rq_engine.specs.Sends.{take_latched}
 use Rattle.rq_engine.proofs.Latches.{one_write}
-use Rattle.rq_engine.proofs.SendCalls.{has_room}
+use Rattle.rq_level.specs.Lawful.{MayHaveNoPlan}
+use Rattle.rq_level.specs.Asked.{job_back}
+use Rattle.rq_level.specs.Meaning.{kept_at, meaning_of}
+use Rattle.rq_level.specs.declared.slots.Given.{Given}
+use Rattle.rq_level.proofs.EachLevel.{all_lawful}
+use Rattle.rq_engine.specs.KeptUp.{StopsStart}
+use Rattle.rq_engine.specs.Applied.{OnLatched}
 
 -- it is of the store
 pub within : (z : Sizes) (task : Task) → IsWithin z task → IsTaskOf z task
@@ -63,7 +69,7 @@ within z (Chain d) h = h
 within z (Tag t) h = h.0
 
 -- a deed is of the store where the sender or the client is that it was asked for
-asked_stored : (z : Sizes) (task : Task) (e : Deed) → IsDeedFor task e → IsWithin z task → IsDeedOf z e
+pub asked_stored : (z : Sizes) (task : Task) (e : Deed) → IsDeedFor task e → IsWithin z task → IsDeedOf z e
 asked_stored z (Chain (Send g tag body)) (Append h n t previous b) is inside = let same : h ≡ g = is.0 in omega (arith, same, inside)
 asked_stored z (Chain (Receive g)) (UnlinkHead h n t b) is inside = let same : h ≡ g = is in omega (arith, same, inside)
 asked_stored z (Chain (Close g)) (Close_deed h) is inside = let same : h ≡ g = is in omega (arith, same, inside)
@@ -90,23 +96,58 @@ tells_itself level bytes told =
     let d = told_deed (deed_by level bytes) in
     ap (λ n. deed_by n (spelled_deed d)) (told_by_its_level level bytes d told.reads) ∙ ap (deed_by level) told.spelled ∙ told.reads
 
-module _ (s : State) (d : Task) (p : Plan) (h : IsPlanOf (known_part s) d p) (level : ℕ) (of_level : level ≡ task_level d) where
-  asked_for : IsDeedFor d (planned_of level p).deed
-  asked_for = subst (λ n. IsDeedFor d (planned_of n p).deed) (sym of_level) h.asked
-
-  pub deed_inside : IsWithin s.sizes d → IsDeedOf s.sizes (planned_of level p).deed
-  deed_inside inside = asked_stored s.sizes d (planned_of level p).deed asked_for inside
+module _ (d : Task) (p : Plan) (level : ℕ) (of_level : level ≡ task_level d) where
+  pub asked_for : IsDeedFor d (deed_of d p) → IsDeedFor d (planned_of level p).deed
+  asked_for asked = subst (λ n. IsDeedFor d (planned_of n p).deed) (sym of_level) asked
 
   -- with its deed
-  pub deed_plan : IsLawfulPlan s.sizes level p → IsDeedPlan s d (planned_of level p)
-  deed_plan lawful = record {
-    asked = asked_for;
+  pub deed_plan : (s : State) → IsPlanOf (known_part s) d p → IsLawfulPlan s.sizes level p → IsDeedPlan s d (planned_of level p)
+  deed_plan s h lawful = record {
+    asked = asked_for h.asked;
     planned = subst (λ n. IsPlannedFrom s.sizes (slots_now s) p.writes.items (Did (planned_of n p).deed)) (sym of_level) h.follows.0;
     free = h.follows.1;
     lowest = h.lowest;
     count = lawful.count;
     reads = tells_itself level p.deed lawful.told;
   }
+
+-- ---- what levels answer
+
+-- for memory, a latch or damage alone
+withheld : (s : State) (a : ℕ) (r : Refusal) → IsWithheld s a r → MayHaveNoPlan r
+withheld s a why.NoMemory h = tt
+withheld s a why.Latched h = tt
+withheld s a (why.Damaged d) h = tt
+withheld s a _ h = absurd h
+
+level_refuses : (s : State) (want : Wants) (job : Job) (May : List Given → Result Plan Refusal → Type 0) → ((given : List Given) (r : Refusal) → May given (Err r) → MayHaveNoPlan r) → (answer : Result Plan Refusal) → IsAnswered s want job May answer → IfErr answer MayHaveNoPlan
+level_refuses s want job May law (Ok p) h = tt
+level_refuses s want job May law (Err r) h = at (want job h.given) h.comes where
+  at : (o : Option ℕ) → ComesFrom s o (May h.given) (Err r) → MayHaveNoPlan r
+  at (Some a) c = withheld s a r c
+  at None c = elim c [
+    | inl may ↦ law h.given r may
+    | inr memory ↦ let is : r ≡ why.NoMemory = cc in subst MayHaveNoPlan (sym is) tt
+  ]
+
+pub job_refused : (s : State) (job : Job) (answer : Result Plan Refusal) → LevelsAnswer s (to_job job) answer → IfErr answer MayHaveNoPlan
+job_refused s job answer h =
+    level_refuses (known_part s) (wants_of h.levels job.level) job (MayPlan (known_part s) (meaning_of job.level) (kept_at h.levels job.level) job)
+    (λ given r may. ((all_lawful job.level).refuses (kept_at h.levels job.level) job given may.latched r may.after may.plans).0) answer h.answered
+
+pub back_refused : (s : State) (told : Record) (answer : Result Plan Refusal) → LevelsAnswer s (to_undo told) answer → IfErr answer MayHaveNoPlan
+back_refused s told answer h =
+    let n = level_back told in
+    level_refuses (known_part s) (wants_of h.levels n) (job_back told) (MayUndo (known_part s) (meaning_of n) (kept_at h.levels n) told)
+    (λ given r may. ((all_lawful n).refuses_undo (kept_at h.levels n) told given may.latched r may.after may.undoes).0) answer h.answered
+
+-- so a start is
+pub stops_start : {X : Type 0} (answer : Result X Refusal) → IfErr answer MayHaveNoPlan → IfErr answer StopsStart
+stops_start (Ok p) h = tt
+stops_start (Err why.NoMemory) h = tt
+stops_start (Err why.Latched) h = tt
+stops_start (Err (why.Damaged d)) h = tt
+stops_start (Err _) h = absurd h
 
 -- ---- what a start answers
 
@@ -117,8 +158,8 @@ refused_for P IsHeld why.Latched causes sound memory held = held causes
 refused_for P IsHeld (why.Damaged x) causes sound memory held = absurd (sound tt)
 refused_for P IsHeld _ causes sound memory held = absurd causes
 
-pub never_failed : (IsHeld : Type 0) (r : Refusal) → RefusesPlan IsHeld r → r ≢ why.Failed
-never_failed IsHeld r causes e = subst (RefusesPlan IsHeld) e causes
+pub never_failed : (r : Refusal) → StopsStart r → r ≢ why.Failed
+never_failed r causes e = subst StopsStart e causes
 
 pub plain_memory : {X : Type 0} (answer : Result X Refusal) → IfErr answer (λ r. r ≡ why.NoMemory) → IfErr answer (λ r. r ≢ why.Failed)
 plain_memory (Ok x) h = tt
@@ -139,6 +180,10 @@ module _ {X : Type 0} (s : State) (asked : Asked) (HasBegun : Type 0) where
   pub start_refused : (r : Refusal) → RefusesPlan (IsHeldUp (known_part s) asked) r → ((e : List Record) → IsEarlier e s → IsSound (on e s) → MayBeAsked (on e s) asked → TellsDamage r → ⊥) → IsStartOf {X = X} s asked HasBegun (Err r)
   start_refused r causes sound = record { begun = tt; free = tt; causes = causes; sound = sound }
 
+pub latched_more : (A B : Type 0) → (A → B) → (r : Refusal) → OnLatched A r → OnLatched B r
+latched_more A B more why.Latched h = more h
+latched_more A B more _ h = tt
+
 -- ---- what is answered to a receive
 
 pub take_free : (s : State) (g : ℕ) → (IsHeldUp (known_part s) (Do (Chain (Receive g))) → ⊥) → take_latched s g ≡ false
@@ -150,13 +195,15 @@ other_held A B (why.Damaged x) l causes = tt
 other_held A B why.Latched l causes = absurd (true≢false l)
 other_held A B _ l causes = absurd causes
 
+held_more : (A B : Type 0) → (A → B) → (r : Refusal) → RefusesPlan A r → RefusesPlan B r
+held_more A B more why.NoMemory causes = tt
+held_more A B more (why.Damaged x) causes = tt
+held_more A B more why.Latched causes = more causes
+held_more A B more _ causes = absurd causes
+
 held_by : (A : Type 0) (r : Refusal) → is_latch r ≡ true → RefusesPlan A r → A
 held_by A why.Latched l causes = causes
 held_by A _ l causes = absurd (false≢true l)
-
-pub same_latched : {X A : Type 0} (a b : A) (answer : Result X Refusal) → is_latched answer ≡ true → OnErr answer (a ≡ b) → a ≡ b
-same_latched a b (Ok x) l same = absurd (false≢true l)
-same_latched a b (Err r) l same = same
 
 module _ {X : Type 0} (s : State) (t : Txn) (n : ℕ) (answer : Result X Refusal) (new : State) where
   -- what holds up a start from one sender, or from some
@@ -186,12 +233,7 @@ module _ {X : Type 0} (s : State) (t : Txn) (n : ℕ) (P : ℕ → Type 0) (new 
   -- where these are held up, it is of no matter which others are tried
   pub take_more : (answer : Result X Refusal) (Q : ℕ → Type 0) → (AreHeldUp s t Q → AreHeldUp s t P) → IsTakeOf s t n Q answer new → IsTakeOf s t n P answer new
   take_more (Ok x) Q more p = record { begun = p.begun; causes = tt; sound = p.sound }
-  take_more (Err r) Q more p = record { begun = tt; causes = at r p.causes; sound = p.sound } where
-    at : (x : Refusal) → RefusesPlan (AreHeldUp s t Q) x → RefusesPlan (AreHeldUp s t P) x
-    at why.NoMemory c = tt
-    at (why.Damaged x) c = tt
-    at why.Latched c = more c
-    at _ c = absurd c
+  take_more (Err r) Q more p = record { begun = tt; causes = held_more (AreHeldUp s t Q) (AreHeldUp s t P) more r p.causes; sound = p.sound }
 
   pub take_none : AreHeldUp s t P → IsTakeOf {X = X} s t n P (Err why.Latched) new
   take_none held = record { begun = tt; causes = held; sound = λ k damage. damage }
@@ -199,12 +241,11 @@ module _ {X : Type 0} (s : State) (t : Txn) (n : ℕ) (P : ℕ → Type 0) (new 
 -- one sender is all of those
 pub take_only : {X : Type 0} (s : State) (t : Txn) (n g : ℕ) (answer : Result X Refusal) (new : State) → WaitsFor s t g → IsStartOf s (Do (Chain (Receive g))) (HasStarted s t n (Receiving g) (Chain (Receive g)) new) answer → IsTakeOf s t n (λ e. e ≡ g) answer new
 take_only s t n g (Ok x) new w p = record { begun = record { sender = g; waits = w; free = take_free s g p.free; started = p.begun }; causes = tt; sound = λ k. tt }
-take_only s t n g (Err r) new w p = record { begun = tt; causes = at r p.causes; sound = λ k. p.sound k.0 k.1 k.2 w.2 } where
-  at : (x : Refusal) → RefusesPlan (take_latched s g ≡ true) x → RefusesPlan (AreHeldUp s t (λ e. e ≡ g)) x
-  at why.NoMemory c = tt
-  at (why.Damaged x) c = tt
-  at why.Latched c = λ e is waits. ap (take_latched s) is ∙ c
-  at _ c = absurd c
+take_only s t n g (Err r) new w p = record {
+  begun = tt;
+  causes = held_more (take_latched s g ≡ true) (AreHeldUp s t (λ e. e ≡ g)) (λ c e is waits. ap (take_latched s) is ∙ c) r p.causes;
+  sound = λ k. p.sound k.0 k.1 k.2 w.2;
+}
 
 -- ---- closes, sends and receives
 
@@ -327,16 +368,53 @@ mark_plan s t n plan below h = at plan.deed refl h.asked h.planned where
 pub mark_one : (s : State) (t : Tagging) (plan : Planned) → t.client < client_count s.sizes → IsDeedPlan s (Tag t) plan → length plan.writes ≡ 1
 mark_one s t plan below h = one_write _ plan.writes _ (mark_plan s t 0 plan below h).tagging.writes
 
--- the log has room for what is planned where its tests said so
-pub plan_room : (s : State) (d : Task) (plan : Planned) → IsWithin s.sizes d → log_full (ledger_of s) (records_of d) ≡ false → IsDeedPlan s d plan → HasRoom s plan.writes
-plan_room s (Chain (Send g tag body)) plan below log h = has_room s plan.writes 4 log (let few = h.count in omega (arith, few))
-plan_room s (Chain (Receive g)) plan below log h = has_room s plan.writes 4 log (let few = h.count in omega (arith, few))
-plan_room s (Chain (Close g)) plan below log h = has_room s plan.writes 2 log (let one = close_one s g plan below h in omega (arith, one))
-plan_room s (Tag t) plan below log h = has_room s plan.writes 2 log (let one = mark_one s t plan below.0 h in omega (arith, one))
+-- no more, with an end, than is counted of the task
+few_planned : (s : State) (d : Task) (plan : Planned) → IsTaskOf s.sizes d → IsDeedPlan s d plan → length plan.writes + 1 ≤ records_of d
+few_planned s (Chain (Send g tag body)) plan below h = (let few = h.count in omega (arith, few))
+few_planned s (Chain (Receive g)) plan below h = (let few = h.count in omega (arith, few))
+few_planned s (Chain (Close g)) plan below h = (let one = close_one s g plan below h in omega (arith, one))
+few_planned s (Tag t) plan below h = (let one = mark_one s t plan below h in omega (arith, one))
+
+module _ (s : State) where
+  by_latch : (latched : Bool) (A : Type 0) → (A → latched ≡ true) → (r : Refusal) → RefusesPlan A r → OnLatched (latched ≡ true) r
+  by_latch latched A held why.Latched causes = held causes
+  by_latch latched A held _ causes = tt
+
+  by_latches : (d : Task) (answer : Result Plan Refusal) → IsPlanned (known_part s) (Do d) answer → IsByLatches s d answer
+  by_latches (Chain (Send g tag body)) answer h = tt
+  by_latches (Chain (Receive g)) answer h = tt
+  by_latches (Chain (Close g)) (Ok p) h = close_free s g h.free
+  by_latches (Chain (Close g)) (Err r) h = by_latch (close_latched s g) _ (close_held s g) r h.causes
+  by_latches (Tag t) (Ok p) h = mark_free s t h.free
+  by_latches (Tag t) (Err r) h = by_latch (mark_latched s t.client) _ (mark_held s t) r h.causes
+
+  -- what begins of a plan is refused for want of memory alone
+  pub latched_then : {X : Type 0} (d : Task) (p : Plan) (answer : Result X Refusal) → IfErr answer (λ r. r ≡ why.NoMemory) → IsByLatches s d (Ok p) → IsByLatches s d answer
+  latched_then (Chain (Send g tag body)) p answer memory h = tt
+  latched_then (Chain (Receive g)) p answer memory h = tt
+  latched_then (Chain (Close g)) p (Ok x) memory h = h
+  latched_then (Chain (Close g)) p (Err r) memory h = subst (OnLatched (close_latched s g ≡ true)) (sym memory) tt
+  latched_then (Tag t) p (Ok x) memory h = h
+  latched_then (Tag t) p (Err r) memory h = subst (OnLatched (mark_latched s t.client ≡ true)) (sym memory) tt
+
+  pub latched_refused : (X : Type 0) (d : Task) (r : Refusal) → IsByLatches {X = Plan} s d (Err r) → IsByLatches {X = X} s d (Err r)
+  latched_refused X (Chain (Send g tag body)) r h = tt
+  latched_refused X (Chain (Receive g)) r h = tt
+  latched_refused X (Chain (Close g)) r h = h
+  latched_refused X (Tag t) r h = h
+
+  -- what is so of a plan over the slots as they are
+  pub own_plan : (d : Task) (level : ℕ) → level ≡ task_level d → IsTaskOf s.sizes d → (answer : Result Plan Refusal) → IfOk answer (IsLawfulPlan s.sizes level) → IsPlanned (known_part s) (Do d) answer → IsOwnPlan s d answer
+  own_plan d level of_level inside (Ok p) lawful is = record { asked = is.plan.asked; few = few_planned s d (planned_of level p) inside (deed_plan d p level of_level s is.plan lawful); latched = by_latches d (Ok p) is }
+  own_plan d level of_level inside (Err r) lawful is = record { asked = tt; few = tt; latched = by_latches d (Err r) is }
 
 -- no more, with an end, than an inverse is counted as
-pub few_writes : (z : Sizes) (q : Slots) (us : List SlotWrite) (d : Deed) → length us ≤ 3 → IsPlannedFrom z q us (Undid d) → length us + 1 ≤ undo_cost (Some (op_of (said d)))
+few_writes : (z : Sizes) (q : Slots) (us : List SlotWrite) (d : Deed) → length us ≤ 3 → IsPlannedFrom z q us (Undid d) → length us + 1 ≤ undo_cost (Some (op_of (said d)))
 few_writes z q us (Append g n tag previous body) few p = omega (arith, few)
 few_writes z q us (UnlinkHead g n tag body) few p = omega (arith, few)
 few_writes z q us (Close_deed g) few p = let one = one_write z us _ p.writes in omega (arith, one)
 few_writes z q us (Mark c tag previous) few p = let one = one_write z us _ p.writes in omega (arith, one)
+
+pub few_back : (s : State) (d : Deed) (answer : Result Plan Refusal) → IfOk answer (IsLawfulInverse s.sizes) → IsPlanned (known_part s) (Undo d) answer → IfOk answer (λ p. length p.writes.items + 1 ≤ undo_cost (Some (op_of (said d))))
+few_back s d (Err r) lawful is = tt
+few_back s d (Ok p) lawful is = let plan : IsPlanBack (known_part s) d p = is.plan in few_writes s.sizes (slots_now s) p.writes.items d lawful.count plan.follows.0

@@ -1,6 +1,6 @@
 -- What a receive answers, from what its tests found.
-use Rattle.std.proofs.Common.{◌≡◌, ℕ, ◌+◌, ◌<◌, ◌≤◌, ◌&&◌, refl, sym, ◌∙◌, ap, subst, Bool, true, false, not, nat_lt, Some, None, inl, inr}
-use Rattle.std.proofs.lemmas.Bool.{lt-ltb, true≢false, and_right}
+use Rattle.std.proofs.Common.{◌≡◌, ℕ, ◌+◌, ◌<◌, ◌≤◌, ◌&&◌, refl, sym, ◌∙◌, ap, subst, Bool, true, false, not, nat_lt, Some, None, inl, inr, length, arith, Result}
+use Rattle.std.proofs.lemmas.Bool.{lt-ltb, true≢false, and_right, cases_lt}
 use Rattle.rq_model.specs.declared.txn.Txn.{Txn}
 use Rattle.rq_model.specs.declared.refusal.Refusal.TheVariants as why
 use Rattle.rq_model.specs.History.{Call}
@@ -27,13 +27,22 @@ use Rattle.rq_groups.specs.declared.End.TheVariants.{Receiving}
 use Rattle.rq_level.specs.Ops.Doing.{Receive}
 use Rattle.rq_planner.specs.Asked.Task.{Chain}
 use Rattle.rq_engine.specs.Lists.{IsTakeStarted}
-use Rattle.rq_engine.specs.Plans.{HasStarted, Planned, under_plan}
+use Rattle.rq_engine.specs.Plans.{HasStarted, Planned, under_plan, HasBegun, HasBegunTake, MayTake}
 use Rattle.rq_engine.proofs.Leveled.{take_plan}
 use Rattle.rq_engine.specs.Answers.{IsCausedIn, Refuses, HasNothingUnderWay}
 use Rattle.rq_engine.specs.Receives.{IsTakeCall}
 use Rattle.rq_engine.specs.Sends.{take_latched}
 use Rattle.rq_engine.proofs.Refusals.{refuse, found_of, no_memory}
 use Rattle.rq_engine.proofs.SendCalls.{ready_row}
+use Rattle.std.proofs.lemmas.List.{get_or_past}
+use Rattle.rq_model.specs.declared.refusal.Refusal.{Refusal}
+use Rattle.rq_groups.specs.declared.End.{End}
+use Rattle.rq_groups.specs.Sides.{with_end}
+use Rattle.rq_planner.specs.Asked.{Task}
+use Rattle.rq_engine.specs.KeptUp.{AreButRead, HasReadSoFar, HasTried, with_images_of}
+use Rattle.rq_engine.specs.Opened.{OpenStore}
+use Rattle.rq_engine.proofs.KeptUp.{tried_then}
+use Rattle.rq_disk.specs.declared.device.PageDevice as page_device
 
 -- a transaction that is not ready is refused so
 module _ (s : State) (t : Txn) (h : NoneHolds (ready_tests (ledger_of s) t false)) where
@@ -120,3 +129,38 @@ module _ (s : State) (t : Txn) (h : NoneHolds (ready_tests (ledger_of s) t false
 -- what it makes of the lists
 pub take_started : (s : State) (t : Txn) (n e : ℕ) (new : State) → HasNothingUnderWay s t n → WaitsFor s t e → HasStarted s t n (Receiving e) (Chain (Receive e)) new → IsTakeStarted s t e (record { txn = t; number = n }) new
 take_started s t n e new ready w b = (refl, w, record { under = under_plan n b.plan; number = refl; ready = ready; plan = take_plan s e n b.plan w.0 b.planned; lists = b.state })
+
+-- a message waits that may be taken: its sender is one of the store
+pub waits_for : {inside s : State} (t : Txn) (e : ℕ) → inside ≡ s → length inside.waiting ≡ sender_count inside.sizes → is_free_for t e inside.ends.receiving ≡ true → 1 ≤ waits inside.waiting e → WaitsFor s t e
+waits_for {inside} {s} t e is senders free some = subst (λ (x : State). WaitsFor x t e) is (below, free, some) where
+  below : e < sender_count inside.sizes
+  below = elim (cases_lt e (sender_count inside.sizes)) [
+    | inl lt ↦ lt
+    | inr past ↦ let none : waits inside.waiting e ≡ 0 = get_or_past inside.waiting e 0 (omega (arith, senders, past)) in absurd (omega (arith, none, some))
+  ]
+
+-- ---- over pages that were read
+
+module _ (s m : State) (lists : AreButRead s m) (t : Txn) where
+  pub may_then : (n : ℕ) → MayTake s t n → MayTake m t n
+  may_then n may = subst (λ (x : State). MayTake x t n) (sym lists) (record { ready = may.ready; log = may.log })
+
+  pub waits_back : (e : ℕ) → WaitsFor m t e → WaitsFor s t e
+  waits_back e w = subst (λ (x : State). WaitsFor x t e) lists w
+
+  begun_back : (n : ℕ) (end : End) (task : Task) (new : State) → HasBegun m t n end task (with_images_of m new) → HasBegun s t n end task (with_images_of s new)
+  begun_back n end task new h = record {
+    plan = h.plan;
+    asked = h.asked;
+    state = ap (with_images_of s) h.state ∙ ap (λ (x : State). record x { rows = change_row t (row_started (under_plan n h.plan)) x.rows; ends = with_end t end x.ends; images = s.images }) lists;
+  }
+
+-- what one receive of those that are tried makes of the store
+module _ {P L X : Type 0} (g : page_device.Ghosts P) (old mid new : OpenStore P L) (t : Txn) (n : ℕ) (read : HasReadSoFar g old mid) (answer : Result X Refusal) where
+  pub take_tried : (e : ℕ) → WaitsFor mid.state t e → HasTried g mid (HasBegun mid.state t n (Receiving e) (Chain (Receive e))) answer new → HasTried g old (HasBegunTake old.state t n) answer new
+  take_tried e w h = tried_then g old mid new (HasBegun mid.state t n (Receiving e) (Chain (Receive e))) (HasBegunTake old.state t n) read
+      (λ s b. record { sender = e; waits = waits_back old.state mid.state read.0.lists t e w; begun = begun_back old.state mid.state read.0.lists t n (Receiving e) (Chain (Receive e)) s b }) answer h
+
+  pub takes_tried : HasTried g mid (HasBegunTake mid.state t n) answer new → HasTried g old (HasBegunTake old.state t n) answer new
+  takes_tried h = tried_then g old mid new (HasBegunTake mid.state t n) (HasBegunTake old.state t n) read
+      (λ s b. record { sender = b.sender; waits = waits_back old.state mid.state read.0.lists t b.sender b.waits; begun = begun_back old.state mid.state read.0.lists t n (Receiving b.sender) (Chain (Receive b.sender)) s b.begun }) answer h

@@ -1,5 +1,5 @@
 -- What a call that may read pages, and write others out, makes of an open store.
-use Rattle.std.specs.Prelude.{◌≡◌, ℕ, Bool, true, false, List, Some, Result, Ok, Err}
+use Rattle.std.specs.Prelude.{◌≡◌, ℕ, Bool, true, false, List, Some, Result, Ok, Err, IfErr, IfOk, OnErr}
 use Rattle.rq_model.specs.History.{Call}
 use Rattle.rq_model.specs.History.Call.{Start_send, Start_receive, Start_receive_from, Start_close, Start_mark, Undo_next, Show}
 use Rattle.rq_model.specs.declared.refusal.Refusal.{Refusal}
@@ -8,7 +8,7 @@ use Rattle.rq_model.specs.Tests.{NoneHolds, first_of}
 use Rattle.rq_disk.specs.Device.PageAsk.{Reads, Writes}
 use Rattle.rq_disk.specs.declared.device.PageDevice as page_device
 use Rattle.rq_pool.specs.KeptUp.{IsForced, IsKeptUp}
-use Rattle.rq_pool.specs.Fetching.{HasFailed, HasOutside}
+use Rattle.rq_pool.specs.Fetching.{HasFailed, HasOutside, MayHaveRead}
 use Rattle.rq_pool.specs.Reading.{OnlyRead}
 use Rattle.rq_store.specs.State.{State}
 use Rattle.rq_engine.specs.Opened.{OpenStore, pooled}
@@ -81,6 +81,35 @@ ReplyCounts g _ old new = g.faults new.pages ≡ g.faults old.pages
 abbrev pub KeepsDevices : {P L : Type 0} → page_device.Ghosts P → OpenStore P L → OpenStore P L → Type 0
 KeepsDevices g old new = IsKeptUp g old.state.forced (pooled old) (pooled new) × (new.log ≡ old.log)
     × (new.replacing ≡ old.replacing)
+
+-- Pages of a store were perhaps read, and nothing else happened, whatever the device gave of them.
+pub record HasReadPages {P L : Type 0} (g : page_device.Ghosts P) (old new : OpenStore P L) : Type 0 where
+  pub pages : MayHaveRead g (pooled old) (pooled new)
+  pub lists : AreButRead old.state new.state
+  pub log : new.log ≡ old.log
+  pub replacing : new.replacing ≡ old.replacing
+
+-- and their device did not fail
+abbrev pub HasReadSoFar : {P L : Type 0} → page_device.Ghosts P → OpenStore P L → OpenStore P L → Type 0
+HasReadSoFar g old new = HasReadPages g old new × (g.faults new.pages ≡ g.faults old.pages)
+
+-- why a start is refused that passed its tests
+abbrev pub StopsStart : Refusal → Type 0
+StopsStart why.NoMemory = Unit {0}
+StopsStart why.Latched = Unit {0}
+StopsStart why.DiskRead = Unit {0}
+StopsStart (why.Damaged d) = Unit {0}
+StopsStart _ = ⊥
+
+-- What a start that passed its tests answers and leaves, whatever the device gave of pages that it read. HasBegun is so of the lists,
+-- but for images of those pages, where something has begun.
+pub record HasTried {P L X : Type 0} (g : page_device.Ghosts P) (old : OpenStore P L) (HasBegun : State → Type 0)
+    (answer : Result X Refusal) (new : OpenStore P L) : Type 0 where
+  pub devices : KeepsDevices g old new
+  pub counts : AnswerCounts g answer old new
+  pub begun : IfOk answer (λ _. HasBegun (with_images_of old.state new.state))
+  pub read : OnErr answer (HasReadPages g old new)
+  pub causes : IfErr answer StopsStart
 
 -- And its lists are as they were, and no device failed. Where the call starts nothing, pages were only read and count as changed as
 -- before, and where it reads none, all is as it was.

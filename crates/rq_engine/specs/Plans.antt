@@ -1,5 +1,5 @@
 -- What the engine's level is asked, what it plans, and what begins.
-use Rattle.std.specs.Prelude.{◌≡◌, ℕ, ◌^◌, ◌<◌, ◌≤◌, Bool, true, false, List, length, Option, Some, Result, Ok, Err, IfErr, IfOk}
+use Rattle.std.specs.Prelude.{◌≡◌, ℕ, ◌+◌, ◌^◌, ◌<◌, ◌≤◌, Bool, true, false, List, length, Option, Some, Result, Ok, Err, IfErr, IfOk}
 use Rattle.rq_model.specs.declared.record.Deed.{Deed}
 use Rattle.rq_model.specs.declared.record.Record.{Record}
 use Rattle.rq_model.specs.declared.refusal.Refusal.{Refusal}
@@ -29,12 +29,15 @@ use Rattle.rq_sound.specs.Sound.{IsSound}
 use Rattle.rq_level.specs.LevelState.{LevelState}
 use Rattle.rq_level.specs.Meaning.{kept_at, meaning_of}
 use Rattle.rq_level.specs.Ops.{Job}
-use Rattle.rq_planner.specs.Answered.{IsAnswered, IsAnsweredBack, IsDeedFor, IsHeldUp, KnowsCells, MayBeAsked, MayPlan, RefusesPlan, SendTakesLowest, wants_of}
+use Rattle.rq_planner.specs.Answered.{IsAnswered, IsAnsweredBack, IsDeedFor, IsHeldUp, KnowsCells, MayBeAsked, MayPlan, RefusesPlan, SendTakesLowest, deed_of, wants_of}
 use Rattle.rq_planner.specs.Asked.{Asked, Task, doing_sender, known}
 use Rattle.rq_planner.specs.Asked.Task.{Chain, Tag}
 use Rattle.rq_engine.specs.Aborts.{UndoTakesLowest}
 use Rattle.rq_engine.specs.Answers.{HasNothingUnderWay}
+use Rattle.rq_engine.specs.Applied.{OnLatched}
+use Rattle.rq_engine.specs.Closes.{close_latched}
 use Rattle.rq_engine.specs.Earlier.{IsEarlier, IsSoundOver, on}
+use Rattle.rq_engine.specs.Marks.{mark_latched}
 use Rattle.rq_engine.specs.Sends.{take_latched}
 
 -- what the level may see of a store: its pages, and what is under way
@@ -110,6 +113,12 @@ pub record HasStarted (s : State) (t : Txn) (n : ℕ) (end : End) (task : Task) 
   pub planned : IsDeedPlan s task plan
   pub state : new ≡ started_with s t n end plan
 
+-- something that is to do the task has begun, whatever pages its plan was read from
+pub record HasBegun (s : State) (t : Txn) (n : ℕ) (end : End) (task : Task) (new : State) : Type 0 where
+  pub plan : Planned
+  pub asked : IsDeedFor task plan.deed
+  pub state : new ≡ started_with s t n end plan
+
 -- the inverse of the finished operation is under way, with these writes
 abbrev pub turned_back : State → Txn → ℕ → Finished → List SlotWrite → State
 turned_back s t n f ws = record s {
@@ -120,6 +129,11 @@ turned_back s t n f ws = record s {
 pub record HasTurnedBack (s : State) (t : Txn) (n : ℕ) (f : Finished) (new : State) : Type 0 where
   pub writes : List SlotWrite
   pub planned : IsInversePlan s f.deed writes
+  pub state : new ≡ turned_back s t n f writes
+
+-- the inverse of the finished operation has begun, whatever pages its writes were planned from
+pub record HasBegunBack (s : State) (t : Txn) (n : ℕ) (f : Finished) (new : State) : Type 0 where
+  pub writes : List SlotWrite
   pub state : new ≡ turned_back s t n f writes
 
 -- what a level may answer, where the levels of a store keep so much
@@ -140,6 +154,25 @@ pub record LevelsAnswer (s : State) (MayAnswer : LevelAnswer) (answer : Result P
   pub levels : List LevelState
   pub knows : KnowsCells s.sizes s.images levels
   pub answered : MayAnswer (known_part s) levels answer
+
+-- it is refused as latched only where a latch holds it up, and answered only where none does
+abbrev pub IsLatchedBy : {X : Type 0} → Bool → Result X Refusal → Type 0
+IsLatchedBy latched (Ok x) = latched ≡ false
+IsLatchedBy latched (Err r) = OnLatched (latched ≡ true) r
+
+-- No page tells which one a close or a mark needs. So that one's latch holds it up whatever the device is.
+abbrev pub IsByLatches : {X : Type 0} → State → Task → Result X Refusal → Type 0
+IsByLatches s (Chain (Send g tag body)) answer = Unit {0}
+IsByLatches s (Chain (Receive g)) answer = Unit {0}
+IsByLatches s (Chain (Close g)) answer = IsLatchedBy (close_latched s g) answer
+IsByLatches s (Tag t) answer = IsLatchedBy (mark_latched s t.client) answer
+
+-- What is so of the plan of a task whatever slots its level was given: its deed is what is asked for, and it makes no more writes
+-- than are counted of the task.
+pub record IsOwnPlan (s : State) (task : Task) (answer : Result Plan Refusal) : Type 0 where
+  pub asked : IfOk answer (λ p. IsDeedFor task (deed_of task p))
+  pub few : IfOk answer (λ p. length p.writes.items + 1 ≤ records_of task)
+  pub latched : IsByLatches s task answer
 
 -- what is planned begins, unless memory is wanting; what is not planned is refused as it was
 abbrev pub ComesOf : {X : Type 0} → Result Plan Refusal → (HasBegun : Plan → Type 0) → Result X Refusal → Type 0
@@ -176,6 +209,12 @@ pub record HasTaken (s : State) (t : Txn) (n : ℕ) (new : State) : Type 0 where
   pub waits : WaitsFor s t sender
   pub free : take_latched s sender ≡ false
   pub started : HasStarted s t n (Receiving sender) (Chain (Receive sender)) new
+
+-- a receive of a message that waits has begun, whatever pages its plan was read from
+pub record HasBegunTake (s : State) (t : Txn) (n : ℕ) (new : State) : Type 0 where
+  pub sender : ℕ
+  pub waits : WaitsFor s t sender
+  pub begun : HasBegun s t n (Receiving sender) (Chain (Receive sender)) new
 
 -- latches hold up a receive from each sender with P of which a message waits
 abbrev pub AreHeldUp : State → Txn → (ℕ → Type 0) → Type 0

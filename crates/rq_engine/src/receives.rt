@@ -1,5 +1,5 @@
 //! Receives.
-ghost use Rattle.std.specs.Prelude.{⊤, ◌≡◌, ◌≢◌, ◌↔◌, Err, ◌+◌, ◌<◌, ◌≤◌, ◌^◌, IfOk, IfErr, IfSome, IfNone, None, OnErr, ℕ, Some, true, false, List};
+ghost use Rattle.std.specs.Prelude.{⊤, ◌≡◌, ◌≢◌, ◌↔◌, Err, ◌+◌, ◌<◌, ◌≤◌, ◌^◌, IfOk, IfErr, IfSome, IfNone, None, ℕ, Some, true, false, List};
 ghost use Rattle.rq_model.specs.History.Call.{Start_receive, Start_receive_from};
 ghost use Rattle.rq_level.specs.Ops.Doing.{Receive};
 ghost use Rattle.rq_groups.specs.Ends.{has_held, is_held};
@@ -9,13 +9,12 @@ ghost use Rattle.rq_engine.specs.Earlier.{on, IsEarlier};
 ghost use Rattle.rq_model.specs.declared.record.Record.{Record};
 ghost use Rattle.rq_store.specs.Plans.{NoneWaits, WaitsFor};
 ghost use Rattle.rq_engine.specs.Applied.{TakesUnlatched};
-ghost use Rattle.rq_engine.specs.Opened.{LeavesDevices};
-ghost use Rattle.rq_engine.specs.KeptUp.{AnswerCounts, KeepsDevices, RefusedButRead};
+ghost use Rattle.rq_engine.specs.KeptUp.{AnswerCounts, HasTried, KeepsDevices, RefusedButRead};
 ghost use Rattle.rq_engine.specs.Answers.{AnswersLegally};
 ghost use Rattle.rq_engine.specs.Lists.{IsTakeBegun, TakeSays, TakeFromSays};
 ghost use Rattle.rq_engine.specs.Receives.{started_of};
 ghost use Rattle.rq_planner.specs.Asked.{Chain, Do};
-ghost use Rattle.rq_engine.specs.Plans.{HasStarted, IsStartOf, IsTakeOf, MayTake};
+ghost use Rattle.rq_engine.specs.Plans.{HasBegun, HasBegunTake, HasStarted, IsStartOf, IsTakeOf, MayTake};
 
 use crate::engine::Engine;
 use crate::starts::is_latched;
@@ -110,11 +109,13 @@ impl<P: PageDevice, L: LogDevice, B: Level> Engine<P, L, B> {
     fn start_take(&mut self, txn: Txn, number: u64, sender: u32) -> Result<(), Refusal>
         requires may { MayTake self.old.state txn number }
         requires waits { WaitsFor self.old.state txn sender }
-        ensures started { IsStartOf self.old.state (Do (Chain (Receive sender)))
-            (HasStarted self.old.state txn number (End.Receiving sender) (Chain (Receive sender)) self.new.state) result }
-        ensures devices { LeavesDevices self.old self.new }
+        // Whatever the device gave of pages that are read.
+        ensures tried { HasTried P.PageDevice self.old
+            (HasBegun self.old.state txn number (End.Receiving sender) (Chain (Receive sender))) result self.new }
         ensures plain { IfErr result (λ r. r ≢ Refusal.Failed) }
-        ensures refused { OnErr result (self.new ≡ self.old) }
+        // Of an honest one.
+        ensures started { P.honest self.new.pages → IsStartOf self.old.state (Do (Chain (Receive sender)))
+            (HasStarted self.old.state txn number (End.Receiving sender) (Chain (Receive sender)) self.new.state) result }
     {
         let Ok(op) = Op::receive(self.alloc, sender) else {
             return Err(Refusal::NoMemory);
@@ -147,10 +148,9 @@ impl<P: PageDevice, L: LogDevice, B: Level> Engine<P, L, B> {
     fn start_any_take(&mut self, txn: Txn, number: u64, first: u32) -> Result<(), Refusal>
         requires may { MayTake self.old.state txn number }
         requires waits { WaitsFor self.old.state txn first }
-        ensures taken { IsTakeOf self.old.state txn number (λ _. ⊤) result self.new.state }
-        ensures devices { LeavesDevices self.old self.new }
+        ensures tried { HasTried P.PageDevice self.old (HasBegunTake self.old.state txn number) result self.new }
         ensures plain { IfErr result (λ r. r ≢ Refusal.Failed) }
-        ensures refused { OnErr result (self.new ≡ self.old) }
+        ensures taken { P.honest self.new.pages → IsTakeOf self.old.state txn number (λ _. ⊤) result self.new.state }
     {
         let answer = self.start_take(txn, number, first);
         if !is_latched(&answer) {
@@ -166,11 +166,10 @@ impl<P: PageDevice, L: LogDevice, B: Level> Engine<P, L, B> {
     // The same, of the senders whose receiving end nobody holds.
     fn start_free_take(&mut self, txn: Txn, number: u64) -> Result<(), Refusal>
         requires { MayTake self.old.state txn number }
-        ensures taken { IsTakeOf self.old.state txn number (λ g. is_held g self.old.state.ends.receiving ≡ false) result
-            self.new.state }
-        ensures devices { LeavesDevices self.old self.new }
+        ensures tried { HasTried P.PageDevice self.old (HasBegunTake self.old.state txn number) result self.new }
         ensures plain { IfErr result (λ r. r ≢ Refusal.Failed) }
-        ensures refused { OnErr result (self.new ≡ self.old) }
+        ensures taken { P.honest self.new.pages → IsTakeOf self.old.state txn number
+            (λ g. is_held g self.old.state.ends.receiving ≡ false) result self.new.state }
     {
         let mut from = 0;
         while let Some(sender) = self.next_free(from) {
@@ -186,11 +185,10 @@ impl<P: PageDevice, L: LogDevice, B: Level> Engine<P, L, B> {
     // The same, of the senders whose receiving end the transaction holds.
     fn start_own_take(&mut self, txn: Txn, number: u64) -> Result<(), Refusal>
         requires { MayTake self.old.state txn number }
-        ensures taken { IsTakeOf self.old.state txn number (λ g. has_held txn g self.old.state.ends.receiving ≡ true)
-            result self.new.state }
-        ensures devices { LeavesDevices self.old self.new }
+        ensures tried { HasTried P.PageDevice self.old (HasBegunTake self.old.state txn number) result self.new }
         ensures plain { IfErr result (λ r. r ≢ Refusal.Failed) }
-        ensures refused { OnErr result (self.new ≡ self.old) }
+        ensures taken { P.honest self.new.pages → IsTakeOf self.old.state txn number
+            (λ g. has_held txn g self.old.state.ends.receiving ≡ true) result self.new.state }
     {
         let mut next = self.ends.newest_received(txn);
         while let Some(sender) = next {
@@ -206,10 +204,9 @@ impl<P: PageDevice, L: LogDevice, B: Level> Engine<P, L, B> {
     // The same, of this sender, where its group holds a message for the transaction.
     fn start_waiting(&mut self, txn: Txn, number: u64, sender: u32) -> Result<(), Refusal>
         requires { MayTake self.old.state txn number }
-        ensures taken { IsTakeOf self.old.state txn number (λ g. g ≡ sender) result self.new.state }
-        ensures devices { LeavesDevices self.old self.new }
+        ensures tried { HasTried P.PageDevice self.old (HasBegunTake self.old.state txn number) result self.new }
         ensures plain { IfErr result (λ r. r ≢ Refusal.Failed) }
-        ensures refused { OnErr result (self.new ≡ self.old) }
+        ensures taken { P.honest self.new.pages → IsTakeOf self.old.state txn number (λ g. g ≡ sender) result self.new.state }
     {
         if self.waiting.count(sender) == 0 || !self.ends.may_receive(txn, sender) {
             return Err(Refusal::Latched);

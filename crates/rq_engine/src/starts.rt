@@ -10,7 +10,8 @@ ghost use Rattle.rq_planner.specs.Lawful.{IsLawfulPlan};
 ghost use Rattle.rq_engine.specs.Opened.{LeavesDevices};
 ghost use Rattle.rq_engine.specs.Answers.{HasNothingUnderWay};
 ghost use Rattle.rq_engine.specs.Invariant.{end_bytes};
-ghost use Rattle.rq_engine.specs.Plans.{BeginsAsPlanned, HasStarted, IsStartOf, IsToStart, LevelsAnswer, is_latched, known_part, planned_of, started_with, to_job};
+ghost use Rattle.rq_engine.specs.KeptUp.{AnswerCounts, HasReadPages, HasTried, StopsStart};
+ghost use Rattle.rq_engine.specs.Plans.{BeginsAsPlanned, HasBegun, HasStarted, IsByLatches, IsOwnPlan, IsStartOf, IsToStart, LevelsAnswer, is_latched, known_part, planned_of, started_with, to_job};
 ghost use Rattle.rq_engine.specs.Sends.{FitsUnder, HasRoom};
 
 use crate::engine::Engine;
@@ -25,7 +26,7 @@ use rq_txn::{Aim, Operation, ToldDeed};
 
 impl<P: PageDevice, L: LogDevice, B: Level> Engine<P, L, B> {
     // Has what is asked planned from the slots as they are. Takes its lock and all that its steps and its end need, and
-    // lets it begin.
+    // lets it begin. Where it is refused, pages were perhaps read.
     pub(crate) fn start_planned(
         &mut self,
         txn: Txn,
@@ -35,13 +36,16 @@ impl<P: PageDevice, L: LogDevice, B: Level> Engine<P, L, B> {
     ) -> Result<(), Refusal>
         requires forward { op.now.undo ≡ false }
         requires may { IsToStart self.old.state txn number end (task_by op.now.level op.now.bytes) }
-        ensures started { (d : Task) → task_by op.now.level op.now.bytes ≡ Some d → IsStartOf self.old.state (Do d)
-            (HasStarted self.old.state txn number end d self.new.state) result }
-        ensures answered { BeginsAsPlanned self.old.state (to_job op.now)
-            (λ plan. self.new.state ≡ started_with self.old.state txn number end (planned_of op.now.level plan)) result }
-        ensures devices { LeavesDevices self.old self.new }
+        // Whatever the device gave of pages that are read.
+        ensures tried { (d : Task) → task_by op.now.level op.now.bytes ≡ Some d → HasTried P.PageDevice self.old
+            (HasBegun self.old.state txn number end d) result self.new }
+        ensures latched { (d : Task) → task_by op.now.level op.now.bytes ≡ Some d → IsByLatches self.old.state d result }
         ensures plain { IfErr result (λ r. r ≢ Refusal.Failed) }
-        ensures refused { OnErr result (self.new ≡ self.old) }
+        // Of an honest one.
+        ensures started { P.honest self.new.pages → (d : Task) → task_by op.now.level op.now.bytes ≡ Some d
+            → IsStartOf self.old.state (Do d) (HasStarted self.old.state txn number end d self.new.state) result }
+        ensures answered { P.honest self.new.pages → BeginsAsPlanned self.old.state (to_job op.now)
+            (λ plan. self.new.state ≡ started_with self.old.state txn number end (planned_of op.now.level plan)) result }
     {
         match self.plan(op) {
             Ok(plan) => self.start(txn, number, end, op.level(), plan),
@@ -53,10 +57,16 @@ impl<P: PageDevice, L: LogDevice, B: Level> Engine<P, L, B> {
     fn plan(&mut self, op: &Op) -> Result<Plan, Refusal>
         requires forward { op.now.undo ≡ false }
         requires asked { is_some (task_by op.now.level op.now.bytes) ≡ true }
-        ensures same { self.new ≡ self.old }
-        ensures answered { LevelsAnswer self.old.state (to_job op.now) result }
+        // Whatever the device gave of pages that are read.
+        ensures read { HasReadPages P.PageDevice self.old self.new }
+        ensures counts { AnswerCounts P.PageDevice result self.old self.new }
+        ensures causes { IfErr result StopsStart }
         ensures lawful { IfOk result (IsLawfulPlan self.old.state.sizes op.now.level) }
-        ensures planned { (d : Task) → task_by op.now.level op.now.bytes ≡ Some d
+        ensures own { (d : Task) → task_by op.now.level op.now.bytes ≡ Some d → IsTaskOf self.old.state.sizes d
+            → IsOwnPlan self.old.state d result }
+        // Of an honest one.
+        ensures answered { P.honest self.new.pages → LevelsAnswer self.old.state (to_job op.now) result }
+        ensures planned { P.honest self.new.pages → (d : Task) → task_by op.now.level op.now.bytes ≡ Some d
             → IsTaskOf self.old.state.sizes d → IsPlanned (known_part self.old.state) (Do d) result }
     {
         let room = self.transactions.spare();

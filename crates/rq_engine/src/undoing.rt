@@ -1,13 +1,14 @@
 //! What an abort undoes: the inverses of finished operations.
-ghost use Rattle.std.specs.Prelude.{◌≡◌, ◌≢◌, ◌↔◌, ◌≤◌, Err, IfOk, IfErr, IfSome, IfNone, None, OnOk, OnErr, Some, false, true, length, List, ℕ};
+ghost use Rattle.std.specs.Prelude.{◌≡◌, ◌≢◌, ◌↔◌, ◌+◌, ◌≤◌, Err, IfOk, IfErr, IfSome, IfNone, None, Some, false, true, length, List, ℕ};
 ghost use Rattle.rq_model.specs.History.Call.{Undo_next};
 ghost use Rattle.rq_model.specs.Tests.{log_full, undo_cost};
 ghost use Rattle.rq_level.specs.Asked.{deed_back};
 ghost use Rattle.rq_sound.specs.Sound.{IsSound};
 ghost use Rattle.rq_engine.specs.Earlier.{on, IsEarlier};
 ghost use Rattle.rq_model.specs.declared.record.Record.{Record as AnyRecord};
-ghost use Rattle.rq_engine.specs.Opened.{LeavesDevices};
-ghost use Rattle.rq_engine.specs.KeptUp.{AnswerCounts, KeepsDevices, RefusedButRead};
+ghost use Rattle.rq_model.specs.Commits.{op_of};
+ghost use Rattle.rq_model.specs.Content.{said};
+ghost use Rattle.rq_engine.specs.KeptUp.{AnswerCounts, HasReadPages, HasTried, KeepsDevices, RefusedButRead, StopsStart};
 ghost use Rattle.rq_engine.specs.Answers.{AnswersLegally};
 ghost use Rattle.rq_engine.specs.Applied.{TakesUnlatched};
 ghost use Rattle.rq_engine.specs.Invariant.{IsDoneConsistent, IsLogged, end_of};
@@ -20,7 +21,7 @@ ghost use Rattle.rq_planner.specs.Asked.{Undo};
 ghost use Rattle.rq_planner.specs.Lawful.{IsLawfulInverse};
 ghost use Rattle.rq_model.specs.declared.record.Deed.{Deed};
 ghost use Rattle.rq_views.specs.InStore.{IsDeedOf};
-ghost use Rattle.rq_engine.specs.Plans.{BeginsAsPlanned, HasTurnedBack, IsStartOf, LevelsAnswer, known_part, to_undo, turned_back};
+ghost use Rattle.rq_engine.specs.Plans.{BeginsAsPlanned, HasBegunBack, HasTurnedBack, IsStartOf, LevelsAnswer, known_part, to_undo, turned_back};
 
 use crate::engine::Engine;
 use rq_disk::{LogDevice, PageDevice};
@@ -83,13 +84,14 @@ impl<P: PageDevice, L: LogDevice, B: Level> Engine<P, L, B> {
         requires kept { IsDoneConsistent self.old.state.sizes done.now }
         requires ended { IsLogged self.old.state.records done.now.lsn (end_of txn done.now) }
         requires log { log_full (ledger_of self.old.state) (undo_cost (Some (op_done done.now))) ≡ false }
-        ensures started { IsStartOf self.old.state (Undo done.now.deed)
-            (HasTurnedBack self.old.state txn number done.now self.new.state) result }
-        ensures answered { BeginsAsPlanned self.old.state (to_undo (end_of txn done.now))
-            (λ plan. self.new.state ≡ turned_back self.old.state txn number done.now plan.writes.items) result }
-        ensures devices { LeavesDevices self.old self.new }
+        // Whatever the device gave of pages that are read.
+        ensures tried { HasTried P.PageDevice self.old (HasBegunBack self.old.state txn number done.now) result self.new }
         ensures plain { IfErr result (λ r. r ≢ Refusal.Failed) }
-        ensures refused { OnErr result (self.new ≡ self.old) }
+        // Of an honest one.
+        ensures started { P.honest self.new.pages → IsStartOf self.old.state (Undo done.now.deed)
+            (HasTurnedBack self.old.state txn number done.now self.new.state) result }
+        ensures answered { P.honest self.new.pages → BeginsAsPlanned self.old.state (to_undo (end_of txn done.now))
+            (λ plan. self.new.state ≡ turned_back self.old.state txn number done.now plan.writes.items) result }
     {
         match self.plan_inverse(&op_end_of(txn, done)) {
             Ok(plan) => {
@@ -112,10 +114,16 @@ impl<P: PageDevice, L: LogDevice, B: Level> Engine<P, L, B> {
     fn plan_inverse(&mut self, told: &Record) -> Result<Plan, Refusal>
         requires logged { (lsn : ℕ) × IsLogged self.old.state.records lsn told.now }
         requires reads { is_some (deed_back told.now) ≡ true }
-        ensures same { self.new ≡ self.old }
-        ensures answered { LevelsAnswer self.old.state (to_undo told.now) result }
+        // Whatever the device gave of pages that are read.
+        ensures read { HasReadPages P.PageDevice self.old self.new }
+        ensures counts { AnswerCounts P.PageDevice result self.old self.new }
+        ensures causes { IfErr result StopsStart }
         ensures lawful { IfOk result (IsLawfulInverse self.old.state.sizes) }
-        ensures planned { (d : Deed) → deed_back told.now ≡ Some d → IsDeedOf self.old.state.sizes d
+        ensures few { (d : Deed) → deed_back told.now ≡ Some d → IsDeedOf self.old.state.sizes d
+            → IfOk result (λ plan. length plan.writes.items + 1 ≤ undo_cost (Some (op_of (said d)))) }
+        // Of an honest one.
+        ensures answered { P.honest self.new.pages → LevelsAnswer self.old.state (to_undo told.now) result }
+        ensures planned { P.honest self.new.pages → (d : Deed) → deed_back told.now ≡ Some d → IsDeedOf self.old.state.sizes d
             → IsPlanned (known_part self.old.state) (Undo d) result }
     {
         let room = self.transactions.spare();

@@ -11,6 +11,8 @@ use Rattle.rq_planner.proofs.Asking.{asks_back, has_place}
 use Rattle.rq_planner.proofs.Knowing.{is_one}
 use Rattle.rq_level.proofs.EachLevel.{all_lawful}
 use Rattle.rq_engine.specs.Plans.{LevelsAnswer, known_part, to_undo}
+use Rattle.rq_engine.proofs.KeptUp.{counts_still, pages_still}
+use Rattle.rq_engine.proofs.Leveled.{back_refused, few_back, stops_start}
 use Rattle.rq_engine.proofs.Opened.{state_is}
 use Rattle.rq_engine.proofs.engine.Engine.plan_inverse.Goals as goal
 
@@ -26,7 +28,7 @@ pub invariant_of-self : goal.invariant_of-self
 invariant_of-self g c = record { kept = rw (c.spare-room.ensures) c.self.invariant.kept; durable = c.self.invariant.durable; cells = rw (c.plan_inverse.ensures.same) c.self.invariant.cells }
 
 pub returns-clause-answered : goal.returns-clause-answered
-returns-clause-answered g c =
+returns-clause-answered g c honest =
     subst (λ (s : State). LevelsAnswer s (to_undo c.args.told.now) c.plan_inverse.result) (state_is c.self.view_is) (record {
       levels = c.self.inside.planner;
       knows = c.self.invariant.cells;
@@ -37,6 +39,38 @@ pub returns-clause-lawful : goal.returns-clause-lawful
 returns-clause-lawful g c = subst (λ (s : State). IfOk c.plan_inverse.result (IsLawfulInverse s.sizes)) (state_is c.self.view_is) (c.plan_inverse.ensures.lawful c.requires.reads)
 
 pub returns-clause-planned : goal.returns-clause-planned
-returns-clause-planned g c d told =
+returns-clause-planned g c honest d told =
     subst (λ (s : State). IsDeedOf s.sizes d → IsPlanned (known_part s) (Undo d) c.plan_inverse.result) (state_is c.self.view_is)
     (subst (λ (rows : List Row). IsDeedOf c.self.inside.pages.sizes d → IsPlanned (known_from c.self.inside.pages rows) (Undo d) c.plan_inverse.result) c.spare-room.ensures (λ own. c.plan_inverse.ensures.planned (Undo d) (asks_back c.args.told.now d told) (has_place c.self.inside.pages.sizes d own)))
+
+-- no page is read
+pub returns-clause-read : goal.returns-clause-read
+returns-clause-read g c = pages_still g.P.PageDevice _ _ (rw (c.spare-room.ensures) c.self.view_is)
+
+pub returns-clause-counts : goal.returns-clause-counts
+returns-clause-counts g c =
+    let answered : LevelsAnswer c.args.self.now.state (to_undo c.args.told.now) c.plan_inverse.result =
+    subst (λ (s : State). LevelsAnswer s (to_undo c.args.told.now) c.plan_inverse.result) (state_is c.self.view_is) (record {
+      levels = c.self.inside.planner;
+      knows = c.self.invariant.cells;
+      answered = subst (λ (rows : List Row). IsAnsweredBack (known_from c.self.inside.pages rows) c.self.inside.planner c.args.told.now c.plan_inverse.result) c.spare-room.ensures c.plan_inverse.ensures.answered;
+    }) in
+    counts_still g.P.PageDevice _ _ (rw (c.spare-room.ensures) c.self.view_is) c.plan_inverse.result (back_refused c.args.self.now.state c.args.told.now c.plan_inverse.result answered)
+
+pub returns-clause-causes : goal.returns-clause-causes
+returns-clause-causes g c =
+    let answered : LevelsAnswer c.args.self.now.state (to_undo c.args.told.now) c.plan_inverse.result =
+    subst (λ (s : State). LevelsAnswer s (to_undo c.args.told.now) c.plan_inverse.result) (state_is c.self.view_is) (record {
+      levels = c.self.inside.planner;
+      knows = c.self.invariant.cells;
+      answered = subst (λ (rows : List Row). IsAnsweredBack (known_from c.self.inside.pages rows) c.self.inside.planner c.args.told.now c.plan_inverse.result) c.spare-room.ensures c.plan_inverse.ensures.answered;
+    }) in
+    stops_start c.plan_inverse.result (back_refused c.args.self.now.state c.args.told.now c.plan_inverse.result answered)
+
+pub returns-clause-few : goal.returns-clause-few
+returns-clause-few g c d told own =
+    let s = c.args.self.now.state in
+    let planned : IsPlanned (known_part s) (Undo d) c.plan_inverse.result =
+    subst (λ (s : State). IsDeedOf s.sizes d → IsPlanned (known_part s) (Undo d) c.plan_inverse.result) (state_is c.self.view_is)
+    (subst (λ (rows : List Row). IsDeedOf c.self.inside.pages.sizes d → IsPlanned (known_from c.self.inside.pages rows) (Undo d) c.plan_inverse.result) c.spare-room.ensures (λ own. c.plan_inverse.ensures.planned (Undo d) (asks_back c.args.told.now d told) (has_place c.self.inside.pages.sizes d own))) own in
+    few_back s d c.plan_inverse.result (subst (λ (s : State). IfOk c.plan_inverse.result (IsLawfulInverse s.sizes)) (state_is c.self.view_is) (c.plan_inverse.ensures.lawful c.requires.reads)) planned

@@ -4,21 +4,18 @@ use Rattle.rq_model.specs.History.Call.{Start_close}
 use Rattle.rq_groups.specs.declared.End.TheVariants.{Sending}
 use Rattle.rq_level.specs.Ops.{Job}
 use Rattle.rq_level.specs.Ops.Doing.{Close}
-use Rattle.rq_store.specs.State.{State}
-use Rattle.rq_sound.specs.Latching.{IsLatched}
 use Rattle.rq_planner.specs.Answered.{IsHeldUp}
 use Rattle.rq_planner.specs.Asked.Asked.{Do}
 use Rattle.rq_planner.specs.Asked.Task.{Chain}
 use Rattle.rq_planner.proofs.Asking.{chained}
 use Rattle.rq_engine.specs.Answers.{Refuses}
-use Rattle.rq_engine.specs.Applied.{OnLatched}
 use Rattle.rq_engine.specs.Earlier.{on}
 use Rattle.rq_engine.specs.Plans.{HasStarted, known_part, under_plan}
 use Rattle.rq_engine.proofs.CloseCalls.{close_done, refused}
 use Rattle.rq_engine.proofs.Latches.{close_refused, close_unlatched}
-use Rattle.rq_engine.proofs.Leveled.{close_free, close_held, close_plan, refused_for}
+use Rattle.rq_engine.proofs.Leveled.{close_held, close_plan, latched_more, refused_for}
 use Rattle.rq_engine.proofs.Refusals.{no_memory}
-use Rattle.rq_engine.proofs.KeptUp.{begun_by, devices_begun, planned_counts, planned_leaves}
+use Rattle.rq_engine.proofs.KeptUp.{begun_by, read_state, tried_leaves}
 use Rattle.rq_engine.proofs.Tested.{close_unready}
 use Rattle.rq_engine.proofs.engine.Engine.start_close.Goals as goal
 
@@ -39,26 +36,22 @@ start_planned-requires-clause-may g c = record {
 pub returns-in-Ok-start_planned-clause-answered : goal.returns-in-Ok-start_planned-clause-answered
 returns-in-Ok-start_planned-clause-answered g c h earlier long =
     let s = c.args.self.now.state in
-    let b : HasStarted s c.args.txn c.in_ok-number.number (Sending c.args.sender) (Chain (Close c.args.sender)) c.start_planned.new.self.state = (c.in-Ok-start_planned.ensures.started (Chain (Close c.args.sender)) (chained c.in-Ok.op.level c.in-Ok.op.bytes _ c.in-Ok.ensures.told)).begun in
+    let b : HasStarted s c.args.txn c.in_ok-number.number (Sending c.args.sender) (Chain (Close c.args.sender)) c.start_planned.new.self.state = (c.in-Ok-start_planned.ensures.started h.0 (Chain (Close c.args.sender)) (chained c.in-Ok.op.level c.in-Ok.op.bytes _ c.in-Ok.ensures.told)).begun in
     close_done (on earlier s) c.args.txn c.args.sender c.in_ok-number.ensures.passes _ c.in_ok-number.number b.plan
     c.in_ok-number.ensures.ready b.planned.free (close_plan s c.args.sender c.in_ok-number.number b.plan c.in_ok-check_close.ensures.sender b.planned) (λ k. c.in_ok-check_close.ensures.passes earlier long k c.in_ok-number.ensures.passes)
     (ap (on earlier) b.state)
 
 pub returns-in-Ok-start_planned-clause-sizes : goal.returns-in-Ok-start_planned-clause-sizes
-returns-in-Ok-start_planned-clause-sizes g c =
-    let s = c.args.self.now.state in
-    let b : HasStarted s c.args.txn c.in_ok-number.number (Sending c.args.sender) (Chain (Close c.args.sender)) c.start_planned.new.self.state = (c.in-Ok-start_planned.ensures.started (Chain (Close c.args.sender)) (chained c.in-Ok.op.level c.in-Ok.op.bytes _ c.in-Ok.ensures.told)).begun in
-    ap (λ (x : State). x.sizes) (b.state)
+returns-in-Ok-start_planned-clause-sizes g c = (c.in-Ok-start_planned.ensures.tried (Chain (Close c.args.sender)) (chained c.in-Ok.op.level c.in-Ok.op.bytes _ c.in-Ok.ensures.told)).devices.0.sizes
 
 pub returns-in-Ok-start_planned-clause-latched : goal.returns-in-Ok-start_planned-clause-latched
 returns-in-Ok-start_planned-clause-latched g c earlier long k =
-    let s = on earlier c.args.self.now.state in
-    close_unlatched s k c.args.txn c.args.sender (close_free s c.args.sender (c.in-Ok-start_planned.ensures.started (Chain (Close c.args.sender)) (chained c.in-Ok.op.level c.in-Ok.op.bytes _ c.in-Ok.ensures.told)).free)
+    close_unlatched (on earlier c.args.self.now.state) k c.args.txn c.args.sender (c.in-Ok-start_planned.ensures.latched (Chain (Close c.args.sender)) (chained c.in-Ok.op.level c.in-Ok.op.bytes _ c.in-Ok.ensures.told))
 
 pub returns-in-Ok-start_planned-clause-lists : goal.returns-in-Ok-start_planned-clause-lists
 returns-in-Ok-start_planned-clause-lists g c honest =
     let s = c.args.self.now.state in
-    let b : HasStarted s c.args.txn c.in_ok-number.number (Sending c.args.sender) (Chain (Close c.args.sender)) c.start_planned.new.self.state = (c.in-Ok-start_planned.ensures.started (Chain (Close c.args.sender)) (chained c.in-Ok.op.level c.in-Ok.op.bytes _ c.in-Ok.ensures.told)).begun in (
+    let b : HasStarted s c.args.txn c.in_ok-number.number (Sending c.args.sender) (Chain (Close c.args.sender)) c.start_planned.new.self.state = (c.in-Ok-start_planned.ensures.started honest (Chain (Close c.args.sender)) (chained c.in-Ok.op.level c.in-Ok.op.bytes _ c.in-Ok.ensures.told)).begun in (
       refl,
       record {
         under = under_plan c.in_ok-number.number b.plan;
@@ -72,41 +65,38 @@ returns-in-Ok-start_planned-clause-lists g c honest =
 pub returns-clause-answered : goal.returns-clause-answered
 returns-clause-answered g c h earlier long k =
     let s = on earlier c.args.self.now.state in
-    let p = c.in-Err.ensures.started (Chain (Close c.args.sender)) (chained c.in-Ok.op.level c.in-Ok.op.bytes _ c.in-Ok.ensures.told) in
-    rw (c.in-Err.ensures.refused) (refused_for (λ (r : Refusal). Refuses s (Start_close c.args.txn c.args.sender) r) (IsHeldUp (known_part s) (Do (Chain (Close c.args.sender)))) c.in-Err.refusal p.causes (p.sound earlier long k (c.in_ok-check_close.ensures.unclosed earlier long k c.in_ok-number.ensures.passes))
+    let p = c.in-Err.ensures.started h.0 (Chain (Close c.args.sender)) (chained c.in-Ok.op.level c.in-Ok.op.bytes _ c.in-Ok.ensures.told) in
+    rw (read_state g.P.PageDevice _ _ (c.in-Err.ensures.tried (Chain (Close c.args.sender)) (chained c.in-Ok.op.level c.in-Ok.op.bytes _ c.in-Ok.ensures.told)).read h.0) (refused_for (λ (r : Refusal). Refuses s (Start_close c.args.txn c.args.sender) r) (IsHeldUp (known_part s) (Do (Chain (Close c.args.sender)))) c.in-Err.refusal p.causes (p.sound earlier long k (c.in_ok-check_close.ensures.unclosed earlier long k c.in_ok-number.ensures.passes))
     (no_memory s _ c.in_ok-number.ensures.running (λ k. c.in_ok-check_close.ensures.passes earlier long k c.in_ok-number.ensures.passes) (λ k. refl)) (λ held. refused s c.args.txn c.args.sender c.in_ok-number.ensures.passes (λ k. c.in_ok-check_close.ensures.passes earlier long k c.in_ok-number.ensures.passes) (close_held s c.args.sender held)) k)
 
 pub returns-clause-latched : goal.returns-clause-latched
-returns-clause-latched g c earlier long k =
-    let s = on earlier c.args.self.now.state in
-    let p = c.in-Err.ensures.started (Chain (Close c.args.sender)) (chained c.in-Ok.op.level c.in-Ok.op.bytes _ c.in-Ok.ensures.told) in
-    refused_for (OnLatched (IsLatched s (Start_close c.args.txn c.args.sender))) (IsHeldUp (known_part s) (Do (Chain (Close c.args.sender)))) c.in-Err.refusal p.causes (p.sound earlier long k (c.in_ok-check_close.ensures.unclosed earlier long k c.in_ok-number.ensures.passes))
-    tt (λ held. close_refused s k c.args.txn c.args.sender (close_held s c.args.sender held))
+returns-clause-latched g c earlier long k = latched_more _ _ (close_refused (on earlier c.args.self.now.state) k c.args.txn c.args.sender) c.in-Err.refusal (c.in-Err.ensures.latched (Chain (Close c.args.sender)) (chained c.in-Ok.op.level c.in-Ok.op.bytes _ c.in-Ok.ensures.told))
 
 pub returns-in-Ok-start_planned-clause-begun : goal.returns-in-Ok-start_planned-clause-begun
 returns-in-Ok-start_planned-clause-begun g c =
     let s = c.args.self.now.state in
-    let b : HasStarted s c.args.txn c.in_ok-number.number (Sending c.args.sender) (Chain (Close c.args.sender)) c.start_planned.new.self.state = (c.in-Ok-start_planned.ensures.started (Chain (Close c.args.sender)) (chained c.in-Ok.op.level c.in-Ok.op.bytes _ c.in-Ok.ensures.told)).begun in
-    (refl, c.in_ok-check_close.ensures.tested c.in_ok-number.ensures.passes, begun_by s c.args.txn c.in_ok-number.number (Sending c.args.sender) s.cells_in_use (Chain (Close c.args.sender)) b.plan _ c.in_ok-number.ensures.ready b.planned.asked b.state)
+    let p = c.in-Ok-start_planned.ensures.tried (Chain (Close c.args.sender)) (chained c.in-Ok.op.level c.in-Ok.op.bytes _ c.in-Ok.ensures.told) in
+    (refl, c.in_ok-check_close.ensures.tested c.in_ok-number.ensures.passes, begun_by s c.args.txn c.in_ok-number.number (Sending c.args.sender) s.cells_in_use (Chain (Close c.args.sender)) p.begun.plan _ c.in_ok-number.ensures.ready p.begun.asked p.begun.state)
 
 pub returns-in-Ok-start_planned-clause-devices : goal.returns-in-Ok-start_planned-clause-devices
-returns-in-Ok-start_planned-clause-devices g c =
-    let s = c.args.self.now.state in
-    let b : HasStarted s c.args.txn c.in_ok-number.number (Sending c.args.sender) (Chain (Close c.args.sender)) c.start_planned.new.self.state = (c.in-Ok-start_planned.ensures.started (Chain (Close c.args.sender)) (chained c.in-Ok.op.level c.in-Ok.op.bytes _ c.in-Ok.ensures.told)).begun in
-    devices_begun g.P.PageDevice c.args.self.now _ _ _ _ c.in-Ok-start_planned.ensures.devices b.state
+returns-in-Ok-start_planned-clause-devices g c = (c.in-Ok-start_planned.ensures.tried (Chain (Close c.args.sender)) (chained c.in-Ok.op.level c.in-Ok.op.bytes _ c.in-Ok.ensures.told)).devices
 
 pub returns-clause-refused : goal.returns-clause-refused
 returns-clause-refused g c =
-    let p = c.in-Err.ensures.started (Chain (Close c.args.sender)) (chained c.in-Ok.op.level c.in-Ok.op.bytes _ c.in-Ok.ensures.told) in
-    planned_leaves c.args.self.now c.start_planned.new.self (Start_close c.args.txn c.args.sender) refl (c.in_ok-check_close.ensures.tested c.in_ok-number.ensures.passes) _ c.in-Err.refusal p.causes c.in-Err.ensures.refused
+    let p = c.in-Err.ensures.tried (Chain (Close c.args.sender)) (chained c.in-Ok.op.level c.in-Ok.op.bytes _ c.in-Ok.ensures.told) in
+    tried_leaves c.args.self.now c.start_planned.new.self (Start_close c.args.txn c.args.sender) refl (c.in_ok-check_close.ensures.tested c.in_ok-number.ensures.passes) c.in-Err.refusal p.causes p.read.lists
 
 pub returns-in-Ok-start_planned-clause-faults : goal.returns-in-Ok-start_planned-clause-faults
-returns-in-Ok-start_planned-clause-faults g c = ap g.P.PageDevice.faults c.in-Ok-start_planned.ensures.devices.0
+returns-in-Ok-start_planned-clause-faults g c = (c.in-Ok-start_planned.ensures.tried (Chain (Close c.args.sender)) (chained c.in-Ok.op.level c.in-Ok.op.bytes _ c.in-Ok.ensures.told)).counts
 
 pub returns-clause-faults : goal.returns-clause-faults
-returns-clause-faults g c =
-    let p = c.in-Err.ensures.started (Chain (Close c.args.sender)) (chained c.in-Ok.op.level c.in-Ok.op.bytes _ c.in-Ok.ensures.told) in
-    planned_counts g.P.PageDevice _ c.in-Err.refusal p.causes c.args.self.now c.start_planned.new.self c.in-Err.ensures.refused
+returns-clause-faults g c = (c.in-Err.ensures.tried (Chain (Close c.args.sender)) (chained c.in-Ok.op.level c.in-Ok.op.bytes _ c.in-Ok.ensures.told)).counts
+
+pub returns-clause-sizes : goal.returns-clause-sizes
+returns-clause-sizes g c = (c.in-Err.ensures.tried (Chain (Close c.args.sender)) (chained c.in-Ok.op.level c.in-Ok.op.bytes _ c.in-Ok.ensures.told)).devices.0.sizes
+
+pub returns-clause-devices : goal.returns-clause-devices
+returns-clause-devices g c = (c.in-Err.ensures.tried (Chain (Close c.args.sender)) (chained c.in-Ok.op.level c.in-Ok.op.bytes _ c.in-Ok.ensures.told)).devices
 
 pub returns-in_err-number-clause-refused : goal.returns-in_err-number-clause-refused
 returns-in_err-number-clause-refused g c =

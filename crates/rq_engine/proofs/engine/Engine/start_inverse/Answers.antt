@@ -4,7 +4,6 @@ use Rattle.rq_model.specs.Tests.{undo_cost}
 use Rattle.rq_model.specs.Vocabulary.{is_some}
 use Rattle.rq_level.specs.Asked.{deed_back}
 use Rattle.rq_level.specs.Writes.{AreSlotWrites}
-use Rattle.rq_views.specs.Stored.{slots_in}
 use Rattle.rq_txn.specs.declared.Aim.TheVariants.{Undoing}
 use Rattle.rq_txn.specs.Rows.{change_row, row_started}
 use Rattle.rq_store.specs.State.{State, op_done}
@@ -14,11 +13,11 @@ use Rattle.rq_engine.specs.Answers.{HasNothingUnderWay}
 use Rattle.rq_engine.specs.Earlier.{on}
 use Rattle.rq_engine.specs.Invariant.{IsDoneConsistent, IsLogged}
 use Rattle.rq_level.specs.declared.writes.Plan.{Plan}
-use Rattle.rq_engine.specs.Plans.{HasTurnedBack, LevelsAnswer, known_part, to_undo, turned_back}
+use Rattle.rq_engine.specs.Plans.{HasBegunBack, HasTurnedBack, LevelsAnswer, known_part, to_undo, turned_back}
 use Rattle.rq_engine.specs.Sends.{HasRoom}
 use Rattle.rq_engine.proofs.AbortCalls.{turned_idle}
-use Rattle.rq_engine.proofs.Leveled.{begins_planned, few_writes, never_failed, plain_memory, start_answered, start_refused}
-use Rattle.rq_engine.proofs.Opened.{state_is}
+use Rattle.rq_engine.proofs.KeptUp.{read_state, tried_planned, tried_refused}
+use Rattle.rq_engine.proofs.Leveled.{begins_planned, never_failed, plain_memory, start_answered, start_refused}
 use Rattle.rq_engine.proofs.SendCalls.{has_room}
 use Rattle.rq_engine.proofs.engine.Engine.start_inverse.Goals as goal
 
@@ -29,15 +28,14 @@ pub plan_inverse-requires-clause-reads : goal.plan_inverse-requires-clause-reads
 plan_inverse-requires-clause-reads g c = ap is_some (ap deed_back c.op_end_of.ensures ∙ c.requires.kept.reads)
 
 pub launch-requires-clause-ready : goal.launch-requires-clause-ready
-launch-requires-clause-ready g c = subst (λ (x : State). HasNothingUnderWay x c.args.txn c.args.number) (sym (state_is c.in-Ok.ensures.same)) (turned_idle c.args.self.now.state c.args.txn c.args.number (Some c.args.done.now) c.requires.ready)
+launch-requires-clause-ready g c = subst (λ (x : State). HasNothingUnderWay x c.args.txn c.args.number) (sym c.in-Ok.ensures.read.lists) (turned_idle c.args.self.now.state c.args.txn c.args.number (Some c.args.done.now) c.requires.ready)
 
 pub launch-requires-clause-fits : goal.launch-requires-clause-fits
 launch-requires-clause-fits g c =
-    let s = c.args.self.now.state in
-    let kept = subst (λ (x : State). IsDoneConsistent x.sizes c.args.done.now) (sym (state_is c.in-Ok.ensures.same)) c.requires.kept in
+    let kept = subst (λ (x : State). IsDoneConsistent x.sizes c.args.done.now) (sym c.in-Ok.ensures.read.lists) c.requires.kept in
     record {
       made = refl;
-      slots = subst (λ (x : State). AreSlotWrites x.sizes c.in-Ok.plan.writes.items) (sym (state_is c.in-Ok.ensures.same)) c.in-Ok.ensures.lawful.slots;
+      slots = subst (λ (x : State). AreSlotWrites x.sizes c.in-Ok.plan.writes.items) (sym c.in-Ok.ensures.read.lists) c.in-Ok.ensures.lawful.slots;
       sender = kept.sender;
       fits = kept.lsn;
     }
@@ -45,47 +43,59 @@ launch-requires-clause-fits g c =
 pub launch-requires-clause-log : goal.launch-requires-clause-log
 launch-requires-clause-log g c =
     let s = c.args.self.now.state in
-    let p : IsPlanBack (known_part s) c.args.done.now.deed c.in-Ok.plan = (c.in-Ok.ensures.planned c.args.done.now.deed (ap deed_back c.op_end_of.ensures ∙ c.requires.kept.reads) c.requires.kept.sender).plan in
-    subst (λ (x : State). HasRoom x c.in-Ok.plan.writes.items) (sym (state_is c.in-Ok.ensures.same))
-    (has_room s c.in-Ok.plan.writes.items (undo_cost (Some (op_done c.args.done.now))) c.requires.log (few_writes s.sizes (slots_in s.sizes s.images) c.in-Ok.plan.writes.items c.args.done.now.deed c.in-Ok.ensures.lawful.count p.follows.0))
+    let few = c.in-Ok.ensures.few c.args.done.now.deed (ap deed_back c.op_end_of.ensures ∙ c.requires.kept.reads) c.requires.kept.sender in
+    subst (λ (x : State). HasRoom x c.in-Ok.plan.writes.items) (sym c.in-Ok.ensures.read.lists) (has_room s c.in-Ok.plan.writes.items (undo_cost (Some (op_done c.args.done.now))) c.requires.log few)
+
+pub returns-in-Ok-clause-tried : goal.returns-in-Ok-clause-tried
+returns-in-Ok-clause-tried g c =
+    let f = c.args.done.now in
+    let ws = c.in-Ok.plan.writes.items in
+    tried_planned g.P.PageDevice c.args.self.now c.plan_inverse.new.self c.launch.new.self (HasBegunBack c.args.self.now.state c.args.txn c.args.number f)
+    (change_row c.args.txn (row_started (record { number = c.args.number; writes = ws; made = 0; aim = Undoing f.lsn f.deed }))) (λ ends. ends) (c.in-Ok.ensures.read, c.in-Ok.ensures.counts) (record { writes = ws; state = refl })
+    c.launch.result c.launch.ensures.launched c.launch.ensures.devices c.launch.ensures.refusal c.launch.ensures.refused
+
+pub returns-in-Err-clause-tried : goal.returns-in-Err-clause-tried
+returns-in-Err-clause-tried g c = tried_refused g.P.PageDevice c.args.self.now c.plan_inverse.new.self (HasBegunBack c.args.self.now.state c.args.txn c.args.number c.args.done.now) c.in-Err.why c.in-Err.ensures.read c.in-Err.ensures.counts c.in-Err.ensures.causes
 
 pub returns-in-Ok-clause-started : goal.returns-in-Ok-clause-started
-returns-in-Ok-clause-started g c =
+returns-in-Ok-clause-started g c honest =
     let s = c.args.self.now.state in
     let f = c.args.done.now in
-    let is = c.in-Ok.ensures.planned f.deed (ap deed_back c.op_end_of.ensures ∙ c.requires.kept.reads) c.requires.kept.sender in
+    let truly = subst g.P.PageDevice.honest c.launch.ensures.devices.0 honest in
+    let is = c.in-Ok.ensures.planned truly f.deed (ap deed_back c.op_end_of.ensures ∙ c.requires.kept.reads) c.requires.kept.sender in
     let p : IsPlanBack (known_part s) f.deed c.in-Ok.plan = is.plan in
     start_answered s (Undo f.deed) (HasTurnedBack s c.args.txn c.args.number f c.launch.new.self.state) c.launch.result is.free
     (λ begun. record {
       writes = c.in-Ok.plan.writes.items;
       planned = record { planned = p.follows.0; slots = c.in-Ok.ensures.lawful.slots; free = p.follows.1; lowest = p.lowest };
-      state = begun ∙ ap (λ (x : State). record x { rows = change_row c.args.txn (row_started (record { number = c.args.number; writes = c.in-Ok.plan.writes.items; made = 0; aim = Undoing f.lsn f.deed })) x.rows }) (state_is c.in-Ok.ensures.same);
+      state = begun ∙ ap (λ (x : State). turned_back x c.args.txn c.args.number f c.in-Ok.plan.writes.items) (read_state g.P.PageDevice _ _ c.in-Ok.ensures.read truly);
     })
     c.launch.ensures.launched c.launch.ensures.refusal
 
 pub returns-in-Err-clause-started : goal.returns-in-Err-clause-started
-returns-in-Err-clause-started g c =
+returns-in-Err-clause-started g c honest =
     let s = c.args.self.now.state in
-    let is = c.in-Err.ensures.planned c.args.done.now.deed (ap deed_back c.op_end_of.ensures ∙ c.requires.kept.reads) c.requires.kept.sender in
+    let is = c.in-Err.ensures.planned honest c.args.done.now.deed (ap deed_back c.op_end_of.ensures ∙ c.requires.kept.reads) c.requires.kept.sender in
     start_refused s (Undo c.args.done.now.deed) _ c.in-Err.why is.causes (λ earlier long k may. is.sound (on earlier s) refl k may)
 
 pub returns-in-Ok-clause-answered : goal.returns-in-Ok-clause-answered
-returns-in-Ok-clause-answered g c =
+returns-in-Ok-clause-answered g c honest =
     let s = c.args.self.now.state in
     let f = c.args.done.now in
+    let truly = subst g.P.PageDevice.honest c.launch.ensures.devices.0 honest in
     record {
       plan = Ok c.in-Ok.plan;
-      asked = subst (λ (r : Record). LevelsAnswer s (to_undo r) (Ok c.in-Ok.plan)) c.op_end_of.ensures c.in-Ok.ensures.answered;
+      asked = subst (λ (r : Record). LevelsAnswer s (to_undo r) (Ok c.in-Ok.plan)) c.op_end_of.ensures (c.in-Ok.ensures.answered truly);
       begun = begins_planned c.in-Ok.plan (λ (p : Plan). c.launch.new.self.state ≡ turned_back s c.args.txn c.args.number f p.writes.items) c.launch.result
-          (λ begun. begun ∙ ap (λ (x : State). turned_back x c.args.txn c.args.number f c.in-Ok.plan.writes.items) (state_is c.in-Ok.ensures.same))
+          (λ begun. begun ∙ ap (λ (x : State). turned_back x c.args.txn c.args.number f c.in-Ok.plan.writes.items) (read_state g.P.PageDevice _ _ c.in-Ok.ensures.read truly))
           c.launch.ensures.launched c.launch.ensures.refusal;
     }
 
 pub returns-in-Err-clause-answered : goal.returns-in-Err-clause-answered
-returns-in-Err-clause-answered g c =
+returns-in-Err-clause-answered g c honest =
     record {
       plan = Err c.in-Err.why;
-      asked = subst (λ (r : Record). LevelsAnswer c.args.self.now.state (to_undo r) (Err c.in-Err.why)) c.op_end_of.ensures c.in-Err.ensures.answered;
+      asked = subst (λ (r : Record). LevelsAnswer c.args.self.now.state (to_undo r) (Err c.in-Err.why)) c.op_end_of.ensures (c.in-Err.ensures.answered honest);
       begun = refl;
     }
 
@@ -93,5 +103,4 @@ pub returns-in-Ok-clause-plain : goal.returns-in-Ok-clause-plain
 returns-in-Ok-clause-plain g c = plain_memory c.launch.result c.launch.ensures.refusal
 
 pub returns-in-Err-clause-plain : goal.returns-in-Err-clause-plain
-returns-in-Err-clause-plain g c =
-    never_failed _ c.in-Err.why (c.in-Err.ensures.planned c.args.done.now.deed (ap deed_back c.op_end_of.ensures ∙ c.requires.kept.reads) c.requires.kept.sender).causes
+returns-in-Err-clause-plain g c = never_failed c.in-Err.why c.in-Err.ensures.causes

@@ -3,22 +3,19 @@ use Rattle.rq_model.specs.declared.refusal.Refusal.{Refusal}
 use Rattle.rq_model.specs.History.Call.{Start_mark}
 use Rattle.rq_groups.specs.declared.End.TheVariants.{Marking}
 use Rattle.rq_level.specs.Ops.{Job, Tagging}
-use Rattle.rq_store.specs.State.{State}
-use Rattle.rq_sound.specs.Latching.{IsLatched}
 use Rattle.rq_planner.specs.Answered.{IsHeldUp}
 use Rattle.rq_planner.specs.Asked.Asked.{Do}
 use Rattle.rq_planner.specs.Asked.Task.{Tag}
 use Rattle.rq_planner.proofs.Asking.{tagged}
 use Rattle.rq_engine.specs.Answers.{Refuses}
-use Rattle.rq_engine.specs.Applied.{OnLatched}
 use Rattle.rq_engine.specs.Earlier.{on}
 use Rattle.rq_engine.specs.Plans.{HasStarted, known_part, under_plan}
 use Rattle.rq_engine.proofs.Earlier.{long_on}
 use Rattle.rq_engine.proofs.MarkCalls.{mark_done, refused}
 use Rattle.rq_engine.proofs.Latches.{mark_refused, mark_unlatched}
-use Rattle.rq_engine.proofs.Leveled.{mark_free, mark_held, mark_plan, refused_for}
+use Rattle.rq_engine.proofs.Leveled.{latched_more, mark_held, mark_plan, refused_for}
 use Rattle.rq_engine.proofs.Refusals.{no_memory, not_full}
-use Rattle.rq_engine.proofs.KeptUp.{begun_by, devices_begun, planned_counts, planned_leaves}
+use Rattle.rq_engine.proofs.KeptUp.{begun_by, read_state, tried_leaves}
 use Rattle.rq_engine.proofs.Tested.{mark_unready}
 use Rattle.rq_engine.proofs.engine.Engine.start_mark.Goals as goal
 
@@ -41,32 +38,29 @@ returns-in-Ok-start_planned-clause-answered g c h earlier long =
     let s = c.args.self.now.state in
     let mark : Tagging = record { client = c.args.client; tag = c.args.tag } in
     let told = tagged c.in-Ok.op.level c.in-Ok.op.bytes _ (ap (λ (j : Job). j.level) c.in-Ok.ensures.op) c.in-Ok.ensures.told in
-    let b : HasStarted s c.args.txn c.in_ok-number.number (Marking c.args.client) (Tag mark) c.start_planned.new.self.state = (c.in-Ok-start_planned.ensures.started (Tag mark) told).begun in
+    let b : HasStarted s c.args.txn c.in_ok-number.number (Marking c.args.client) (Tag mark) c.start_planned.new.self.state = (c.in-Ok-start_planned.ensures.started h.0 (Tag mark) told).begun in
     mark_done (on earlier s) c.args.txn c.args.client c.args.tag c.in_ok-number.ensures.passes _ c.in_ok-number.number b.plan
     c.in_ok-number.ensures.ready b.planned.free (mark_plan s mark c.in_ok-number.number b.plan (c.in_ok-check_mark.ensures.client c.args.tag).0 b.planned) (λ k. c.in_ok-check_mark.ensures.passes earlier c.args.tag long k c.in_ok-number.ensures.passes)
     (ap (on earlier) b.state)
 
 pub returns-in-Ok-start_planned-clause-sizes : goal.returns-in-Ok-start_planned-clause-sizes
 returns-in-Ok-start_planned-clause-sizes g c =
-    let s = c.args.self.now.state in
     let mark : Tagging = record { client = c.args.client; tag = c.args.tag } in
     let told = tagged c.in-Ok.op.level c.in-Ok.op.bytes _ (ap (λ (j : Job). j.level) c.in-Ok.ensures.op) c.in-Ok.ensures.told in
-    let b : HasStarted s c.args.txn c.in_ok-number.number (Marking c.args.client) (Tag mark) c.start_planned.new.self.state = (c.in-Ok-start_planned.ensures.started (Tag mark) told).begun in
-    ap (λ (x : State). x.sizes) (b.state)
+    (c.in-Ok-start_planned.ensures.tried (Tag mark) told).devices.0.sizes
 
 pub returns-in-Ok-start_planned-clause-latched : goal.returns-in-Ok-start_planned-clause-latched
 returns-in-Ok-start_planned-clause-latched g c earlier long k =
-    let s = on earlier c.args.self.now.state in
     let mark : Tagging = record { client = c.args.client; tag = c.args.tag } in
     let told = tagged c.in-Ok.op.level c.in-Ok.op.bytes _ (ap (λ (j : Job). j.level) c.in-Ok.ensures.op) c.in-Ok.ensures.told in
-    mark_unlatched s k c.args.txn c.args.client c.args.tag (mark_free s mark (c.in-Ok-start_planned.ensures.started (Tag mark) told).free)
+    mark_unlatched (on earlier c.args.self.now.state) k c.args.txn c.args.client c.args.tag (c.in-Ok-start_planned.ensures.latched (Tag mark) told)
 
 pub returns-in-Ok-start_planned-clause-lists : goal.returns-in-Ok-start_planned-clause-lists
 returns-in-Ok-start_planned-clause-lists g c honest =
     let s = c.args.self.now.state in
     let mark : Tagging = record { client = c.args.client; tag = c.args.tag } in
     let told = tagged c.in-Ok.op.level c.in-Ok.op.bytes _ (ap (λ (j : Job). j.level) c.in-Ok.ensures.op) c.in-Ok.ensures.told in
-    let b : HasStarted s c.args.txn c.in_ok-number.number (Marking c.args.client) (Tag mark) c.start_planned.new.self.state = (c.in-Ok-start_planned.ensures.started (Tag mark) told).begun in (
+    let b : HasStarted s c.args.txn c.in_ok-number.number (Marking c.args.client) (Tag mark) c.start_planned.new.self.state = (c.in-Ok-start_planned.ensures.started honest (Tag mark) told).begun in (
       refl,
       record {
         under = under_plan c.in_ok-number.number b.plan;
@@ -83,23 +77,17 @@ returns-clause-answered g c h earlier long k =
     let s = on earlier old in
     let mark : Tagging = record { client = c.args.client; tag = c.args.tag } in
     let told = tagged c.in-Ok.op.level c.in-Ok.op.bytes _ (ap (λ (j : Job). j.level) c.in-Ok.ensures.op) c.in-Ok.ensures.told in
-    let p = c.in-Err.ensures.started (Tag mark) told in
+    let p = c.in-Err.ensures.started h.0 (Tag mark) told in
     let few = not_full old 2 c.in_ok-check_mark.ensures.log in
     let n = long_on earlier old long in
-    rw (c.in-Err.ensures.refused) (refused_for (λ (r : Refusal). Refuses s (Start_mark c.args.txn c.args.client c.args.tag) r) (IsHeldUp (known_part s) (Do (Tag mark))) c.in-Err.refusal p.causes (p.sound earlier long k (omega (arith, few, n)))
+    rw (read_state g.P.PageDevice _ _ (c.in-Err.ensures.tried (Tag mark) told).read h.0) (refused_for (λ (r : Refusal). Refuses s (Start_mark c.args.txn c.args.client c.args.tag) r) (IsHeldUp (known_part s) (Do (Tag mark))) c.in-Err.refusal p.causes (p.sound earlier long k (omega (arith, few, n)))
     (no_memory s _ c.in_ok-number.ensures.running (λ k. c.in_ok-check_mark.ensures.passes earlier c.args.tag long k c.in_ok-number.ensures.passes) (λ k. refl)) (λ held. refused s c.args.txn c.args.client c.args.tag c.in_ok-number.ensures.passes (λ k. c.in_ok-check_mark.ensures.passes earlier c.args.tag long k c.in_ok-number.ensures.passes) (mark_held s mark held)) k)
 
 pub returns-clause-latched : goal.returns-clause-latched
 returns-clause-latched g c earlier long k =
-    let old = c.args.self.now.state in
-    let s = on earlier old in
     let mark : Tagging = record { client = c.args.client; tag = c.args.tag } in
     let told = tagged c.in-Ok.op.level c.in-Ok.op.bytes _ (ap (λ (j : Job). j.level) c.in-Ok.ensures.op) c.in-Ok.ensures.told in
-    let p = c.in-Err.ensures.started (Tag mark) told in
-    let few = not_full old 2 c.in_ok-check_mark.ensures.log in
-    let n = long_on earlier old long in
-    refused_for (OnLatched (IsLatched s (Start_mark c.args.txn c.args.client c.args.tag))) (IsHeldUp (known_part s) (Do (Tag mark))) c.in-Err.refusal p.causes (p.sound earlier long k (omega (arith, few, n)))
-    tt (λ held. mark_refused s k c.args.txn c.args.client c.args.tag (mark_held s mark held))
+    latched_more _ _ (mark_refused (on earlier c.args.self.now.state) k c.args.txn c.args.client c.args.tag) c.in-Err.refusal (c.in-Err.ensures.latched (Tag mark) told)
 
 pub returns-in_err-check_mark-clause-answered : goal.returns-in_err-check_mark-clause-answered
 returns-in_err-check_mark-clause-answered g c =
@@ -108,36 +96,48 @@ returns-in_err-check_mark-clause-answered g c =
 
 pub returns-in-Ok-start_planned-clause-begun : goal.returns-in-Ok-start_planned-clause-begun
 returns-in-Ok-start_planned-clause-begun g c =
-    let s = c.args.self.now.state in
     let mark : Tagging = record { client = c.args.client; tag = c.args.tag } in
     let told = tagged c.in-Ok.op.level c.in-Ok.op.bytes _ (ap (λ (j : Job). j.level) c.in-Ok.ensures.op) c.in-Ok.ensures.told in
-    let b : HasStarted s c.args.txn c.in_ok-number.number (Marking c.args.client) (Tag mark) c.start_planned.new.self.state = (c.in-Ok-start_planned.ensures.started (Tag mark) told).begun in
-    (refl, c.in_ok-check_mark.ensures.tested c.args.tag c.in_ok-number.ensures.passes, begun_by s c.args.txn c.in_ok-number.number (Marking c.args.client) s.cells_in_use (Tag mark) b.plan _ c.in_ok-number.ensures.ready b.planned.asked b.state)
+    let s = c.args.self.now.state in
+    let p = (c.in-Ok-start_planned.ensures.tried (Tag mark) told) in
+    (refl, c.in_ok-check_mark.ensures.tested c.args.tag c.in_ok-number.ensures.passes, begun_by s c.args.txn c.in_ok-number.number (Marking c.args.client) s.cells_in_use (Tag mark) p.begun.plan _ c.in_ok-number.ensures.ready p.begun.asked p.begun.state)
 
 pub returns-in-Ok-start_planned-clause-devices : goal.returns-in-Ok-start_planned-clause-devices
 returns-in-Ok-start_planned-clause-devices g c =
-    let s = c.args.self.now.state in
     let mark : Tagging = record { client = c.args.client; tag = c.args.tag } in
     let told = tagged c.in-Ok.op.level c.in-Ok.op.bytes _ (ap (λ (j : Job). j.level) c.in-Ok.ensures.op) c.in-Ok.ensures.told in
-    let b : HasStarted s c.args.txn c.in_ok-number.number (Marking c.args.client) (Tag mark) c.start_planned.new.self.state = (c.in-Ok-start_planned.ensures.started (Tag mark) told).begun in
-    devices_begun g.P.PageDevice c.args.self.now _ _ _ _ c.in-Ok-start_planned.ensures.devices b.state
+    (c.in-Ok-start_planned.ensures.tried (Tag mark) told).devices
 
 pub returns-clause-refused : goal.returns-clause-refused
 returns-clause-refused g c =
     let mark : Tagging = record { client = c.args.client; tag = c.args.tag } in
     let told = tagged c.in-Ok.op.level c.in-Ok.op.bytes _ (ap (λ (j : Job). j.level) c.in-Ok.ensures.op) c.in-Ok.ensures.told in
-    let p = c.in-Err.ensures.started (Tag mark) told in
-    planned_leaves c.args.self.now c.start_planned.new.self (Start_mark c.args.txn c.args.client c.args.tag) refl (c.in_ok-check_mark.ensures.tested c.args.tag c.in_ok-number.ensures.passes) _ c.in-Err.refusal p.causes c.in-Err.ensures.refused
+    let p = (c.in-Err.ensures.tried (Tag mark) told) in
+    tried_leaves c.args.self.now c.start_planned.new.self (Start_mark c.args.txn c.args.client c.args.tag) refl (c.in_ok-check_mark.ensures.tested c.args.tag c.in_ok-number.ensures.passes) c.in-Err.refusal p.causes p.read.lists
 
 pub returns-in-Ok-start_planned-clause-faults : goal.returns-in-Ok-start_planned-clause-faults
-returns-in-Ok-start_planned-clause-faults g c = ap g.P.PageDevice.faults c.in-Ok-start_planned.ensures.devices.0
+returns-in-Ok-start_planned-clause-faults g c =
+    let mark : Tagging = record { client = c.args.client; tag = c.args.tag } in
+    let told = tagged c.in-Ok.op.level c.in-Ok.op.bytes _ (ap (λ (j : Job). j.level) c.in-Ok.ensures.op) c.in-Ok.ensures.told in
+    (c.in-Ok-start_planned.ensures.tried (Tag mark) told).counts
 
 pub returns-clause-faults : goal.returns-clause-faults
 returns-clause-faults g c =
     let mark : Tagging = record { client = c.args.client; tag = c.args.tag } in
     let told = tagged c.in-Ok.op.level c.in-Ok.op.bytes _ (ap (λ (j : Job). j.level) c.in-Ok.ensures.op) c.in-Ok.ensures.told in
-    let p = c.in-Err.ensures.started (Tag mark) told in
-    planned_counts g.P.PageDevice _ c.in-Err.refusal p.causes c.args.self.now c.start_planned.new.self c.in-Err.ensures.refused
+    (c.in-Err.ensures.tried (Tag mark) told).counts
+
+pub returns-clause-sizes : goal.returns-clause-sizes
+returns-clause-sizes g c =
+    let mark : Tagging = record { client = c.args.client; tag = c.args.tag } in
+    let told = tagged c.in-Ok.op.level c.in-Ok.op.bytes _ (ap (λ (j : Job). j.level) c.in-Ok.ensures.op) c.in-Ok.ensures.told in
+    (c.in-Err.ensures.tried (Tag mark) told).devices.0.sizes
+
+pub returns-clause-devices : goal.returns-clause-devices
+returns-clause-devices g c =
+    let mark : Tagging = record { client = c.args.client; tag = c.args.tag } in
+    let told = tagged c.in-Ok.op.level c.in-Ok.op.bytes _ (ap (λ (j : Job). j.level) c.in-Ok.ensures.op) c.in-Ok.ensures.told in
+    (c.in-Err.ensures.tried (Tag mark) told).devices
 
 pub returns-in_err-number-clause-refused : goal.returns-in_err-number-clause-refused
 returns-in_err-number-clause-refused g c =

@@ -1,7 +1,8 @@
 use Rattle.std.proofs.Common.{◌≡◌, ℕ, Ok, Err, refl, sym, ◌∙◌, ap, subst, true}
 use Rattle.rq_model.specs.Vocabulary.{is_some}
 use Rattle.rq_views.specs.InStore.{IsDeedOf}
-use Rattle.rq_groups.specs.Sides.{is_free_end}
+use Rattle.rq_groups.specs.Sides.{is_free_end, with_end}
+use Rattle.rq_txn.specs.Rows.{change_row, row_started}
 use Rattle.rq_store.specs.State.{State}
 use Rattle.rq_level.specs.declared.writes.Plan.{Plan}
 use Rattle.rq_planner.specs.Asked.{Task}
@@ -10,83 +11,109 @@ use Rattle.rq_planner.specs.Lawful.{IsLawfulPlan}
 use Rattle.rq_planner.proofs.Asking.{asked_of}
 use Rattle.rq_engine.specs.Answers.{HasNothingUnderWay}
 use Rattle.rq_engine.specs.Earlier.{on}
-use Rattle.rq_engine.specs.Plans.{HasStarted, IsWithin, planned_of, started_with}
+use Rattle.rq_engine.specs.Plans.{HasBegun, HasStarted, IsWithin, planned_of, records_of, started_with, under_plan}
 use Rattle.rq_engine.specs.Sends.{HasRoom}
-use Rattle.rq_engine.proofs.Leveled.{begins_planned, deed_inside, deed_plan, never_failed, plain_memory, plan_room, some_task, start_answered, start_refused, within}
-use Rattle.rq_engine.proofs.Opened.{state_is}
+use Rattle.rq_engine.proofs.KeptUp.{read_state, tried_planned, tried_refused}
+use Rattle.rq_engine.proofs.Leveled.{asked_for, asked_stored, begins_planned, deed_plan, latched_refused, latched_then, never_failed, plain_memory, some_task, start_answered, start_refused, within}
+use Rattle.rq_engine.proofs.SendCalls.{has_room}
 use Rattle.rq_engine.proofs.engine.Engine.start_planned.Goals as goal
 
 pub plan-requires-clause-asked : goal.plan-requires-clause-asked
 plan-requires-clause-asked g c = ap is_some c.requires.may.is
 
 pub start-requires-clause-ready : goal.start-requires-clause-ready
-start-requires-clause-ready g c = subst (λ (x : State). HasNothingUnderWay x c.args.txn c.args.number) (sym (state_is c.in-Ok.ensures.same)) c.requires.may.may.ready
+start-requires-clause-ready g c = subst (λ (x : State). HasNothingUnderWay x c.args.txn c.args.number) (sym c.in-Ok.ensures.read.lists) c.requires.may.may.ready
 
 pub start-requires-clause-free : goal.start-requires-clause-free
-start-requires-clause-free g c = subst (λ (x : State). is_free_end c.args.txn c.args.end x.ends ≡ true) (sym (state_is c.in-Ok.ensures.same)) c.requires.may.may.free
+start-requires-clause-free g c = subst (λ (x : State). is_free_end c.args.txn c.args.end x.ends ≡ true) (sym c.in-Ok.ensures.read.lists) c.requires.may.may.free
 
 pub start-requires-clause-lawful : goal.start-requires-clause-lawful
 start-requires-clause-lawful g c =
-    subst (λ (x : State). IsLawfulPlan x.sizes c.level.result c.in-Ok.plan) (sym (state_is c.in-Ok.ensures.same))
+    subst (λ (x : State). IsLawfulPlan x.sizes c.level.result c.in-Ok.plan) (sym c.in-Ok.ensures.read.lists)
     (subst (λ (n : ℕ). IsLawfulPlan c.args.self.now.state.sizes n c.in-Ok.plan) (sym c.level.ensures) c.in-Ok.ensures.lawful)
 
 pub start-requires-clause-inside : goal.start-requires-clause-inside
 start-requires-clause-inside g c =
     let s = c.args.self.now.state in
     let d = c.requires.may.task in
-    let p = (c.in-Ok.ensures.planned d c.requires.may.is (within s.sizes d c.requires.may.may.inside)).plan in
-    subst (λ (x : State). IsDeedOf x.sizes (planned_of c.level.result c.in-Ok.plan).deed) (sym (state_is c.in-Ok.ensures.same))
-    (deed_inside s d c.in-Ok.plan p c.level.result (c.level.ensures ∙ asked_of c.args.op.now.level c.args.op.now.bytes d c.requires.may.is) c.requires.may.may.inside)
+    let own = c.in-Ok.ensures.own d c.requires.may.is (within s.sizes d c.requires.may.may.inside) in
+    subst (λ (x : State). IsDeedOf x.sizes (planned_of c.level.result c.in-Ok.plan).deed) (sym c.in-Ok.ensures.read.lists)
+    (asked_stored s.sizes d _ (asked_for d c.in-Ok.plan c.level.result (c.level.ensures ∙ asked_of c.args.op.now.level c.args.op.now.bytes d c.requires.may.is) own.asked) c.requires.may.may.inside)
 
 pub start-requires-clause-log : goal.start-requires-clause-log
 start-requires-clause-log g c =
     let s = c.args.self.now.state in
     let d = c.requires.may.task in
-    let p = (c.in-Ok.ensures.planned d c.requires.may.is (within s.sizes d c.requires.may.may.inside)).plan in
-    let lawful : IsLawfulPlan s.sizes c.level.result c.in-Ok.plan = subst (λ (n : ℕ). IsLawfulPlan s.sizes n c.in-Ok.plan) (sym c.level.ensures) c.in-Ok.ensures.lawful in
-    subst (λ (x : State). HasRoom x c.in-Ok.plan.writes.items) (sym (state_is c.in-Ok.ensures.same))
-    (plan_room s d (planned_of c.level.result c.in-Ok.plan) c.requires.may.may.inside c.requires.may.may.log (deed_plan s d c.in-Ok.plan p c.level.result (c.level.ensures ∙ asked_of c.args.op.now.level c.args.op.now.bytes d c.requires.may.is) lawful))
+    let own = c.in-Ok.ensures.own d c.requires.may.is (within s.sizes d c.requires.may.may.inside) in
+    subst (λ (x : State). HasRoom x c.in-Ok.plan.writes.items) (sym c.in-Ok.ensures.read.lists) (has_room s c.in-Ok.plan.writes.items (records_of d) c.requires.may.may.log own.few)
+
+pub returns-in-Ok-clause-tried : goal.returns-in-Ok-clause-tried
+returns-in-Ok-clause-tried g c d e =
+    let s = c.args.self.now.state in
+    let plan = planned_of c.level.result c.in-Ok.plan in
+    let inside : IsWithin s.sizes d = subst (λ (x : Task). IsWithin s.sizes x) (some_task c.requires.may.task d (sym c.requires.may.is ∙ e)) c.requires.may.may.inside in
+    let own = c.in-Ok.ensures.own d e (within s.sizes d inside) in
+    tried_planned g.P.PageDevice c.args.self.now c.plan.new.self c.start.new.self (HasBegun s c.args.txn c.args.number c.args.end d) (change_row c.args.txn (row_started (under_plan c.args.number plan))) (with_end c.args.txn c.args.end) (c.in-Ok.ensures.read, c.in-Ok.ensures.counts)
+    (record { plan = plan; asked = asked_for d c.in-Ok.plan c.level.result (c.level.ensures ∙ asked_of c.args.op.now.level c.args.op.now.bytes d e) own.asked; state = refl })
+    c.start.result c.start.ensures.started c.start.ensures.devices c.start.ensures.refusal c.start.ensures.refused
+
+pub returns-in-Err-clause-tried : goal.returns-in-Err-clause-tried
+returns-in-Err-clause-tried g c d e = tried_refused g.P.PageDevice c.args.self.now c.plan.new.self (HasBegun c.args.self.now.state c.args.txn c.args.number c.args.end d) c.in-Err.refusal c.in-Err.ensures.read c.in-Err.ensures.counts c.in-Err.ensures.causes
+
+pub returns-in-Ok-clause-latched : goal.returns-in-Ok-clause-latched
+returns-in-Ok-clause-latched g c d e =
+    let s = c.args.self.now.state in
+    let inside : IsWithin s.sizes d = subst (λ (x : Task). IsWithin s.sizes x) (some_task c.requires.may.task d (sym c.requires.may.is ∙ e)) c.requires.may.may.inside in
+    latched_then s d c.in-Ok.plan c.start.result c.start.ensures.refusal (c.in-Ok.ensures.own d e (within s.sizes d inside)).latched
+
+pub returns-in-Err-clause-latched : goal.returns-in-Err-clause-latched
+returns-in-Err-clause-latched g c d e =
+    let s = c.args.self.now.state in
+    let inside : IsWithin s.sizes d = subst (λ (x : Task). IsWithin s.sizes x) (some_task c.requires.may.task d (sym c.requires.may.is ∙ e)) c.requires.may.may.inside in
+    latched_refused s _ d c.in-Err.refusal (c.in-Err.ensures.own d e (within s.sizes d inside)).latched
 
 pub returns-in-Ok-clause-started : goal.returns-in-Ok-clause-started
-returns-in-Ok-clause-started g c d e =
+returns-in-Ok-clause-started g c honest d e =
     let s = c.args.self.now.state in
     let plan = c.in-Ok.plan in
     let inside : IsWithin s.sizes d = subst (λ (x : Task). IsWithin s.sizes x) (some_task c.requires.may.task d (sym c.requires.may.is ∙ e)) c.requires.may.may.inside in
-    let is = c.in-Ok.ensures.planned d e (within s.sizes d inside) in
+    let truly = subst g.P.PageDevice.honest c.start.ensures.devices.0 honest in
+    let is = c.in-Ok.ensures.planned truly d e (within s.sizes d inside) in
     let lawful : IsLawfulPlan s.sizes c.level.result plan = subst (λ (n : ℕ). IsLawfulPlan s.sizes n plan) (sym c.level.ensures) c.in-Ok.ensures.lawful in
     start_answered s (Do d) (HasStarted s c.args.txn c.args.number c.args.end d c.start.new.self.state) c.start.result is.free
     (λ begun. record {
       plan = planned_of c.level.result plan;
-      planned = deed_plan s d plan is.plan c.level.result (c.level.ensures ∙ asked_of c.args.op.now.level c.args.op.now.bytes d e) lawful;
-      state = begun ∙ ap (λ (x : State). started_with x c.args.txn c.args.number c.args.end (planned_of c.level.result plan)) (state_is c.in-Ok.ensures.same);
+      planned = deed_plan d plan c.level.result (c.level.ensures ∙ asked_of c.args.op.now.level c.args.op.now.bytes d e) s is.plan lawful;
+      state = begun ∙ ap (λ (x : State). started_with x c.args.txn c.args.number c.args.end (planned_of c.level.result plan)) (read_state g.P.PageDevice _ _ c.in-Ok.ensures.read truly);
     })
     c.start.ensures.started c.start.ensures.refusal
 
 pub returns-in-Err-clause-started : goal.returns-in-Err-clause-started
-returns-in-Err-clause-started g c d e =
+returns-in-Err-clause-started g c honest d e =
     let s = c.args.self.now.state in
     let inside : IsWithin s.sizes d = subst (λ (x : Task). IsWithin s.sizes x) (some_task c.requires.may.task d (sym c.requires.may.is ∙ e)) c.requires.may.may.inside in
-    let is = c.in-Err.ensures.planned d e (within s.sizes d inside) in
+    let is = c.in-Err.ensures.planned honest d e (within s.sizes d inside) in
     start_refused s (Do d) _ c.in-Err.refusal is.causes (λ earlier long k may. is.sound (on earlier s) refl k may)
 
 pub returns-in-Ok-clause-plain : goal.returns-in-Ok-clause-plain
 returns-in-Ok-clause-plain g c = plain_memory c.start.result c.start.ensures.refusal
 
 pub returns-in-Err-clause-plain : goal.returns-in-Err-clause-plain
-returns-in-Err-clause-plain g c = never_failed _ c.in-Err.refusal (c.in-Err.ensures.planned c.requires.may.task c.requires.may.is (within c.args.self.now.state.sizes c.requires.may.task c.requires.may.may.inside)).causes
+returns-in-Err-clause-plain g c = never_failed c.in-Err.refusal c.in-Err.ensures.causes
 
 pub returns-in-Ok-clause-answered : goal.returns-in-Ok-clause-answered
-returns-in-Ok-clause-answered g c =
+returns-in-Ok-clause-answered g c honest =
     let s = c.args.self.now.state in
     let plan = c.in-Ok.plan in
+    let truly = subst g.P.PageDevice.honest c.start.ensures.devices.0 honest in
     record {
       plan = Ok plan;
-      asked = c.in-Ok.ensures.answered;
+      asked = c.in-Ok.ensures.answered truly;
       begun = begins_planned plan (λ (p : Plan). c.start.new.self.state ≡ started_with s c.args.txn c.args.number c.args.end (planned_of c.args.op.now.level p)) c.start.result
-          (λ begun. begun ∙ ap (λ (x : State). started_with x c.args.txn c.args.number c.args.end (planned_of c.level.result plan)) (state_is c.in-Ok.ensures.same)
+          (λ begun. begun ∙ ap (λ (x : State). started_with x c.args.txn c.args.number c.args.end (planned_of c.level.result plan)) (read_state g.P.PageDevice _ _ c.in-Ok.ensures.read truly)
           ∙ ap (λ (n : ℕ). started_with s c.args.txn c.args.number c.args.end (planned_of n plan)) c.level.ensures)
           c.start.ensures.started c.start.ensures.refusal;
     }
 
 pub returns-in-Err-clause-answered : goal.returns-in-Err-clause-answered
-returns-in-Err-clause-answered g c = record { plan = Err c.in-Err.refusal; asked = c.in-Err.ensures.answered; begun = refl }
+returns-in-Err-clause-answered g c honest = record { plan = Err c.in-Err.refusal; asked = c.in-Err.ensures.answered honest; begun = refl }

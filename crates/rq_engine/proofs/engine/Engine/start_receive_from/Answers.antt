@@ -18,7 +18,7 @@ use Rattle.rq_engine.proofs.Latches.{from_latched, from_unlatched}
 use Rattle.rq_engine.proofs.Leveled.{refused_for, take_free, take_plan}
 use Rattle.rq_engine.proofs.Opened.{state_is}
 use Rattle.rq_engine.proofs.TakeCalls.{from_refused, log_is_full, none_from_done, receiver_busy, take_done, take_memory, take_started}
-use Rattle.rq_engine.proofs.KeptUp.{begun_by, devices_begun, planned_counts, planned_leaves}
+use Rattle.rq_engine.proofs.KeptUp.{begun_by, read_state, tried_leaves}
 use Rattle.rq_engine.proofs.Tested.{from_busy, from_log_full, from_tested, from_unknown, from_unready}
 use Rattle.rq_engine.proofs.engine.Engine.start_receive_from.Goals as goal
 
@@ -85,12 +85,12 @@ returns-in-Ok-clause-answered g c h earlier long =
     let count : waits s.waiting c.args.sender ≡ c.count.result = ap (λ (x : State). waits x.waiting c.args.sender) (sym (state_is c.self.view_is)) ∙ sym c.count.ensures in
     let some = c.if-count-eq0.false in
     let wait : 1 ≤ waits s.waiting c.args.sender = omega (arith, count, some) in
-    let b = c.in-Ok.ensures.started.begun in
+    let b = (c.in-Ok.ensures.started h.0).begun in
     take_done (on earlier s) c.args.txn c.in_ok-number.ensures.passes c.args.sender below free wait (full_on earlier s long 4 ∙ sym c.if-is_log_full.ensures)
     _ c.in_ok-number.number b.plan c.in_ok-number.ensures.ready b.planned.free (take_plan s c.args.sender c.in_ok-number.number b.plan below b.planned) (ap (on earlier) b.state) (Start_receive_from c.args.txn c.args.sender) (inr refl)
 
 pub returns-in-Ok-clause-sizes : goal.returns-in-Ok-clause-sizes
-returns-in-Ok-clause-sizes g c = ap (λ (x : State). x.sizes) c.in-Ok.ensures.started.begun.state
+returns-in-Ok-clause-sizes g c = c.in-Ok.ensures.tried.devices.0.sizes
 
 pub returns-in-Ok-clause-lists : goal.returns-in-Ok-clause-lists
 returns-in-Ok-clause-lists g c honest =
@@ -102,12 +102,12 @@ returns-in-Ok-clause-lists g c honest =
     let count : waits s.waiting c.args.sender ≡ c.count.result = ap (λ (x : State). waits x.waiting c.args.sender) (sym (state_is c.self.view_is)) ∙ sym c.count.ensures in
     let some = c.if-count-eq0.false in
     let wait : 1 ≤ waits s.waiting c.args.sender = omega (arith, count, some) in
-    take_started s c.args.txn c.in_ok-number.number c.args.sender _ c.in_ok-number.ensures.ready (below, free, wait) c.in-Ok.ensures.started.begun
+    take_started s c.args.txn c.in_ok-number.number c.args.sender _ c.in_ok-number.ensures.ready (below, free, wait) (c.in-Ok.ensures.started honest).begun
 
 pub returns-in-Ok-clause-latched : goal.returns-in-Ok-clause-latched
 returns-in-Ok-clause-latched g c honest earlier long k =
     let s = on earlier c.args.self.now.state in
-    from_unlatched s k c.args.txn c.args.sender (take_free s c.args.sender c.in-Ok.ensures.started.free)
+    from_unlatched s k c.args.txn c.args.sender (take_free s c.args.sender (c.in-Ok.ensures.started honest).free)
 
 pub returns-in-Err-clause-answered : goal.returns-in-Err-clause-answered
 returns-in-Err-clause-answered g c h earlier long k =
@@ -119,9 +119,9 @@ returns-in-Err-clause-answered g c h earlier long k =
     let count : waits s.waiting c.args.sender ≡ c.count.result = ap (λ (x : State). waits x.waiting c.args.sender) (sym (state_is c.self.view_is)) ∙ sym c.count.ensures in
     let some = c.if-count-eq0.false in
     let wait : 1 ≤ waits s.waiting c.args.sender = omega (arith, count, some) in
-    let p = c.in-Err.ensures.started in
+    let p = c.in-Err.ensures.started h.0 in
     let room = full_on earlier s long 4 ∙ sym c.if-is_log_full.ensures in
-    rw (c.in-Err.ensures.refused) (refused_for (λ (r : Refusal). Refuses (on earlier s) (Start_receive_from c.args.txn c.args.sender) r) (take_latched s c.args.sender ≡ true) c.in-Err.refusal p.causes (p.sound earlier long k wait)
+    rw (read_state g.P.PageDevice _ _ c.in-Err.ensures.tried.read h.0) (refused_for (λ (r : Refusal). Refuses (on earlier s) (Start_receive_from c.args.txn c.args.sender) r) (take_latched s c.args.sender ≡ true) c.in-Err.refusal p.causes (p.sound earlier long k wait)
     (take_memory (on earlier s) c.args.txn c.in_ok-number.ensures.passes c.args.sender below free wait room (Start_receive_from c.args.txn c.args.sender) (inr refl))
     (from_refused (on earlier s) c.args.txn c.in_ok-number.ensures.passes c.args.sender below free wait room) k)
 
@@ -135,7 +135,7 @@ returns-in-Err-clause-latched g c honest earlier long k =
     let count : waits s.waiting c.args.sender ≡ c.count.result = ap (λ (x : State). waits x.waiting c.args.sender) (sym (state_is c.self.view_is)) ∙ sym c.count.ensures in
     let some = c.if-count-eq0.false in
     let wait : 1 ≤ waits s.waiting c.args.sender = omega (arith, count, some) in
-    let p = c.in-Err.ensures.started in
+    let p = c.in-Err.ensures.started honest in
     refused_for (OnLatched (IsLatched (on earlier s) (Start_receive_from c.args.txn c.args.sender))) (take_latched s c.args.sender ≡ true) c.in-Err.refusal p.causes (p.sound earlier long k wait)
     tt (from_latched (on earlier s) k c.args.txn c.args.sender)
 
@@ -149,8 +149,8 @@ returns-in-Ok-clause-begun g c =
     let count : waits s.waiting c.args.sender ≡ c.count.result = ap (λ (x : State). waits x.waiting c.args.sender) (sym (state_is c.self.view_is)) ∙ sym c.count.ensures in
     let some = c.if-count-eq0.false in
     let wait : 1 ≤ waits s.waiting c.args.sender = omega (arith, count, some) in
-    let b = c.in-Ok.ensures.started.begun in
-    (refl, from_tested c.args.self.now c.args.txn c.in_ok-number.ensures.passes c.args.sender below free (sym c.if-is_log_full.ensures), (below, free, wait), begun_by s c.args.txn c.in_ok-number.number (Receiving c.args.sender) s.cells_in_use (Chain (Receive c.args.sender)) b.plan _ c.in_ok-number.ensures.ready b.planned.asked b.state)
+    let b = c.in-Ok.ensures.tried.begun in
+    (refl, from_tested c.args.self.now c.args.txn c.in_ok-number.ensures.passes c.args.sender below free (sym c.if-is_log_full.ensures), (below, free, wait), begun_by s c.args.txn c.in_ok-number.number (Receiving c.args.sender) s.cells_in_use (Chain (Receive c.args.sender)) b.plan _ c.in_ok-number.ensures.ready b.asked b.state)
 
 pub returns-then-count-eq0-clause-none : goal.returns-then-count-eq0-clause-none
 returns-then-count-eq0-clause-none g c =
@@ -167,7 +167,7 @@ returns-then-count-eq0-clause-none g c =
     )
 
 pub returns-in-Ok-clause-devices : goal.returns-in-Ok-clause-devices
-returns-in-Ok-clause-devices g c = devices_begun g.P.PageDevice c.args.self.now _ _ _ _ c.in-Ok.ensures.devices c.in-Ok.ensures.started.begun.state
+returns-in-Ok-clause-devices g c = c.in-Ok.ensures.tried.devices
 
 pub returns-in-Err-clause-refused : goal.returns-in-Err-clause-refused
 returns-in-Err-clause-refused g c =
@@ -175,13 +175,19 @@ returns-in-Err-clause-refused g c =
     let lt = c.if-sender-senders.false in
     let below : c.args.sender < sender_count c.args.self.now.state.sizes = omega (arith, n, lt) in
     let free : is_free_for c.args.txn c.args.sender c.args.self.now.state.ends.receiving ≡ true = ap (λ (s : State). is_free_for c.args.txn c.args.sender s.ends.receiving) (sym (state_is c.self.view_is)) ∙ sym c.if-not-may_receive.ensures in
-    planned_leaves c.args.self.now c.start_take.new.self (Start_receive_from c.args.txn c.args.sender) refl (from_tested c.args.self.now c.args.txn c.in_ok-number.ensures.passes c.args.sender below free (sym c.if-is_log_full.ensures)) _ c.in-Err.refusal c.in-Err.ensures.started.causes c.in-Err.ensures.refused
+    tried_leaves c.args.self.now c.start_take.new.self (Start_receive_from c.args.txn c.args.sender) refl (from_tested c.args.self.now c.args.txn c.in_ok-number.ensures.passes c.args.sender below free (sym c.if-is_log_full.ensures)) c.in-Err.refusal c.in-Err.ensures.tried.causes c.in-Err.ensures.tried.read.lists
 
 pub returns-in-Ok-clause-faults : goal.returns-in-Ok-clause-faults
-returns-in-Ok-clause-faults g c = ap g.P.PageDevice.faults c.in-Ok.ensures.devices.0
+returns-in-Ok-clause-faults g c = c.in-Ok.ensures.tried.counts
 
 pub returns-in-Err-clause-faults : goal.returns-in-Err-clause-faults
-returns-in-Err-clause-faults g c = planned_counts g.P.PageDevice _ c.in-Err.refusal c.in-Err.ensures.started.causes c.args.self.now c.start_take.new.self c.in-Err.ensures.refused
+returns-in-Err-clause-faults g c = c.in-Err.ensures.tried.counts
+
+pub returns-in-Err-clause-sizes : goal.returns-in-Err-clause-sizes
+returns-in-Err-clause-sizes g c = c.in-Err.ensures.tried.devices.0.sizes
+
+pub returns-in-Err-clause-devices : goal.returns-in-Err-clause-devices
+returns-in-Err-clause-devices g c = c.in-Err.ensures.tried.devices
 
 pub returns-in_err-number-clause-refused : goal.returns-in_err-number-clause-refused
 returns-in_err-number-clause-refused g c =

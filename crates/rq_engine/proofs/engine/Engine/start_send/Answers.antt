@@ -1,4 +1,4 @@
-use Rattle.std.proofs.Common.{rules, ◌≡◌, arith, ◌+◌, ap, ◌∙◌, refl}
+use Rattle.std.proofs.Common.{rules, ◌≡◌, arith, ◌+◌, ap, ◌∙◌, refl, sym, subst}
 use Rattle.rq_model.specs.declared.refusal.Refusal.{Refusal}
 use Rattle.rq_model.specs.History.Call.{Start_send}
 use Rattle.rq_model.specs.Vocabulary.{message_of}
@@ -20,8 +20,9 @@ use Rattle.rq_engine.proofs.Leveled.{refused_for, send_plan}
 use Rattle.rq_engine.proofs.Opened.{state_is}
 use Rattle.rq_engine.proofs.Refusals.{no_memory, not_full}
 use Rattle.rq_engine.proofs.SendCalls.{going_started, send_done, send_refused}
+use Rattle.rq_engine.specs.KeptUp.{KeepsDevices, with_images_of}
 use Rattle.rq_engine.specs.Opened.{OpenStore}
-use Rattle.rq_engine.proofs.KeptUp.{begun_by, devices_begun, planned_counts, planned_leaves}
+use Rattle.rq_engine.proofs.KeptUp.{begun_by, read_state, tried_leaves}
 use Rattle.rq_engine.proofs.Tested.{send_unready}
 use Rattle.rq_engine.proofs.engine.Engine.start_send.Goals as goal
 
@@ -41,33 +42,34 @@ start_planned-requires-clause-may g c = record {
 
 pub returns-in-Ok-start_planned-clause-answered : goal.returns-in-Ok-start_planned-clause-answered
 returns-in-Ok-start_planned-clause-answered g c h earlier long =
+    let truly = subst g.P.PageDevice.honest (ap (λ (o : OpenStore _ _). o.pages) c.self-2.view_is) h.0 in
     let s = c.args.self.now.state in
-    let b : HasStarted s c.args.txn c.in_ok-number.number (Sending c.args.sender) (Chain (Send c.args.sender c.args.tag c.args.body.now)) c.start_planned.new.self.state = (c.in-Ok-start_planned.ensures.started (Chain (Send c.args.sender c.args.tag c.args.body.now)) (chained c.in-Ok.op.level c.in-Ok.op.bytes _ (c.in-Ok.ensures.told c.in_ok-check_send.ensures.short))).begun in
+    let b : HasStarted s c.args.txn c.in_ok-number.number (Sending c.args.sender) (Chain (Send c.args.sender c.args.tag c.args.body.now)) c.start_planned.new.self.state = (c.in-Ok-start_planned.ensures.started truly (Chain (Send c.args.sender c.args.tag c.args.body.now)) (chained c.in-Ok.op.level c.in-Ok.op.bytes _ (c.in-Ok.ensures.told c.in_ok-check_send.ensures.short))).begun in
     send_done (on earlier s) _ c.args.txn c.in_ok-number.number c.args.sender c.args.tag c.args.body.now b.plan
     c.in_ok-number.ensures.ready c.in_ok-number.ensures.passes b.planned.free (send_plan s c.args.sender c.in_ok-number.number b.plan c.in_ok-check_send.ensures.sender c.args.tag c.args.body.now b.planned) c.in_ok-check_send.ensures.free c.in_ok-check_send.ensures.room
     (λ k. c.in_ok-check_send.ensures.passes earlier long k c.in_ok-number.ensures.passes)
     (ap (on earlier) (ap (λ (x : State). record x { cells_in_use = x.cells_in_use + 1 }) (state_is c.self-2.view_is ∙ b.state)))
 
 pub returns-in-Ok-start_planned-clause-sizes : goal.returns-in-Ok-start_planned-clause-sizes
-returns-in-Ok-start_planned-clause-sizes g c =
-    let s = c.args.self.now.state in
-    let b : HasStarted s c.args.txn c.in_ok-number.number (Sending c.args.sender) (Chain (Send c.args.sender c.args.tag c.args.body.now)) c.start_planned.new.self.state = (c.in-Ok-start_planned.ensures.started (Chain (Send c.args.sender c.args.tag c.args.body.now)) (chained c.in-Ok.op.level c.in-Ok.op.bytes _ (c.in-Ok.ensures.told c.in_ok-check_send.ensures.short))).begun in
-    ap (λ (x : State). x.sizes) (state_is c.self-2.view_is ∙ b.state)
+returns-in-Ok-start_planned-clause-sizes g c = ap (λ (x : State). x.sizes) (state_is c.self-2.view_is) ∙ (c.in-Ok-start_planned.ensures.tried (Chain (Send c.args.sender c.args.tag c.args.body.now)) (chained c.in-Ok.op.level c.in-Ok.op.bytes _ (c.in-Ok.ensures.told c.in_ok-check_send.ensures.short))).devices.0.sizes
 
 pub returns-in-Ok-start_planned-clause-latched : goal.returns-in-Ok-start_planned-clause-latched
 returns-in-Ok-start_planned-clause-latched g c honest earlier long k =
-    send_unlatched (on earlier c.args.self.now.state) k c.args.txn c.args.sender c.args.tag c.args.body.now (c.in-Ok-start_planned.ensures.started (Chain (Send c.args.sender c.args.tag c.args.body.now)) (chained c.in-Ok.op.level c.in-Ok.op.bytes _ (c.in-Ok.ensures.told c.in_ok-check_send.ensures.short))).free
+    let truly = subst g.P.PageDevice.honest (ap (λ (o : OpenStore _ _). o.pages) c.self-2.view_is) honest in
+    send_unlatched (on earlier c.args.self.now.state) k c.args.txn c.args.sender c.args.tag c.args.body.now (c.in-Ok-start_planned.ensures.started truly (Chain (Send c.args.sender c.args.tag c.args.body.now)) (chained c.in-Ok.op.level c.in-Ok.op.bytes _ (c.in-Ok.ensures.told c.in_ok-check_send.ensures.short))).free
 
 pub returns-in-Ok-start_planned-clause-lowest : goal.returns-in-Ok-start_planned-clause-lowest
 returns-in-Ok-start_planned-clause-lowest g c honest =
+    let truly = subst g.P.PageDevice.honest (ap (λ (o : OpenStore _ _). o.pages) c.self-2.view_is) honest in
     let s = c.args.self.now.state in
-    let b : HasStarted s c.args.txn c.in_ok-number.number (Sending c.args.sender) (Chain (Send c.args.sender c.args.tag c.args.body.now)) c.start_planned.new.self.state = (c.in-Ok-start_planned.ensures.started (Chain (Send c.args.sender c.args.tag c.args.body.now)) (chained c.in-Ok.op.level c.in-Ok.op.bytes _ (c.in-Ok.ensures.told c.in_ok-check_send.ensures.short))).begun in
+    let b : HasStarted s c.args.txn c.in_ok-number.number (Sending c.args.sender) (Chain (Send c.args.sender c.args.tag c.args.body.now)) c.start_planned.new.self.state = (c.in-Ok-start_planned.ensures.started truly (Chain (Send c.args.sender c.args.tag c.args.body.now)) (chained c.in-Ok.op.level c.in-Ok.op.bytes _ (c.in-Ok.ensures.told c.in_ok-check_send.ensures.short))).begun in
     going_started s _ c.args.txn c.in_ok-number.number b.plan (λ r u. TakesLowest s u.writes) c.in_ok-number.ensures.ready (ap (λ (x : State). x.rows) (state_is c.self-2.view_is ∙ b.state)) (λ r. b.planned.lowest)
 
 pub returns-in-Ok-start_planned-clause-lists : goal.returns-in-Ok-start_planned-clause-lists
 returns-in-Ok-start_planned-clause-lists g c honest =
+    let truly = subst g.P.PageDevice.honest (ap (λ (o : OpenStore _ _). o.pages) c.self-2.view_is) honest in
     let s = c.args.self.now.state in
-    let b : HasStarted s c.args.txn c.in_ok-number.number (Sending c.args.sender) (Chain (Send c.args.sender c.args.tag c.args.body.now)) c.start_planned.new.self.state = (c.in-Ok-start_planned.ensures.started (Chain (Send c.args.sender c.args.tag c.args.body.now)) (chained c.in-Ok.op.level c.in-Ok.op.bytes _ (c.in-Ok.ensures.told c.in_ok-check_send.ensures.short))).begun in (
+    let b : HasStarted s c.args.txn c.in_ok-number.number (Sending c.args.sender) (Chain (Send c.args.sender c.args.tag c.args.body.now)) c.start_planned.new.self.state = (c.in-Ok-start_planned.ensures.started truly (Chain (Send c.args.sender c.args.tag c.args.body.now)) (chained c.in-Ok.op.level c.in-Ok.op.bytes _ (c.in-Ok.ensures.told c.in_ok-check_send.ensures.short))).begun in (
       refl,
       record {
         under = under_plan c.in_ok-number.number b.plan;
@@ -84,8 +86,8 @@ returns-clause-answered g c h earlier long k =
     let s = on earlier old in
     let few = not_full old 4 c.in_ok-check_send.ensures.log in
     let n = long_on earlier old long in
-    let p = c.in-Err.ensures.started (Chain (Send c.args.sender c.args.tag c.args.body.now)) (chained c.in-Ok.op.level c.in-Ok.op.bytes _ (c.in-Ok.ensures.told c.in_ok-check_send.ensures.short)) in
-    rw (c.in-Err.ensures.refused) (refused_for (λ (r : Refusal). Refuses s (Start_send c.args.txn (message_of c.args.sender c.args.tag c.args.body.now)) r) (SendIsLatched s c.args.sender) c.in-Err.refusal p.causes (p.sound earlier long k (c.in_ok-check_send.ensures.room, omega (arith, few, n)))
+    let p = c.in-Err.ensures.started h.0 (Chain (Send c.args.sender c.args.tag c.args.body.now)) (chained c.in-Ok.op.level c.in-Ok.op.bytes _ (c.in-Ok.ensures.told c.in_ok-check_send.ensures.short)) in
+    rw (read_state g.P.PageDevice _ _ (c.in-Err.ensures.tried (Chain (Send c.args.sender c.args.tag c.args.body.now)) (chained c.in-Ok.op.level c.in-Ok.op.bytes _ (c.in-Ok.ensures.told c.in_ok-check_send.ensures.short))).read h.0) (refused_for (λ (r : Refusal). Refuses s (Start_send c.args.txn (message_of c.args.sender c.args.tag c.args.body.now)) r) (SendIsLatched s c.args.sender) c.in-Err.refusal p.causes (p.sound earlier long k (c.in_ok-check_send.ensures.room, omega (arith, few, n)))
     (no_memory s _ c.in_ok-number.ensures.running (λ k. c.in_ok-check_send.ensures.passes earlier long k c.in_ok-number.ensures.passes) (λ k. refl)) (send_refused s c.args.txn c.args.sender c.args.tag c.args.body.now (λ k. c.in_ok-check_send.ensures.passes earlier long k c.in_ok-number.ensures.passes) c.in_ok-check_send.ensures.room) k)
 
 pub returns-clause-latched : goal.returns-clause-latched
@@ -94,48 +96,48 @@ returns-clause-latched g c honest earlier long k =
     let s = on earlier old in
     let few = not_full old 4 c.in_ok-check_send.ensures.log in
     let n = long_on earlier old long in
-    let p = c.in-Err.ensures.started (Chain (Send c.args.sender c.args.tag c.args.body.now)) (chained c.in-Ok.op.level c.in-Ok.op.bytes _ (c.in-Ok.ensures.told c.in_ok-check_send.ensures.short)) in
+    let p = c.in-Err.ensures.started honest (Chain (Send c.args.sender c.args.tag c.args.body.now)) (chained c.in-Ok.op.level c.in-Ok.op.bytes _ (c.in-Ok.ensures.told c.in_ok-check_send.ensures.short)) in
     refused_for (OnLatched (IsLatched s (Start_send c.args.txn (message_of c.args.sender c.args.tag c.args.body.now)))) (SendIsLatched s c.args.sender) c.in-Err.refusal p.causes (p.sound earlier long k (c.in_ok-check_send.ensures.room, omega (arith, few, n)))
     tt (send_latched s k c.args.txn c.args.sender c.args.tag c.args.body.now)
 
 pub overflow_add-self : goal.overflow_add-self
 overflow_add-self g c =
-    let b : HasStarted c.args.self.now.state c.args.txn c.in_ok-number.number (Sending c.args.sender) (Chain (Send c.args.sender c.args.tag c.args.body.now)) c.start_planned.new.self.state = (c.in-Ok-start_planned.ensures.started (Chain (Send c.args.sender c.args.tag c.args.body.now)) (chained c.in-Ok.op.level c.in-Ok.op.bytes _ (c.in-Ok.ensures.told c.in_ok-check_send.ensures.short))).begun in
-    let same : c.self-2.inside.cells_in_use ≡ c.args.self.now.state.cells_in_use = ap (λ (x : State). x.cells_in_use) (state_is c.self-2.view_is ∙ b.state) in
+    let p = c.in-Ok-start_planned.ensures.tried (Chain (Send c.args.sender c.args.tag c.args.body.now)) (chained c.in-Ok.op.level c.in-Ok.op.bytes _ (c.in-Ok.ensures.told c.in_ok-check_send.ensures.short)) in
+    let same : c.self-2.inside.cells_in_use ≡ c.args.self.now.state.cells_in_use = ap (λ (x : State). x.cells_in_use) (state_is c.self-2.view_is) ∙ ap (λ (x : State). x.cells_in_use) p.begun.state in
     let small = c.in_ok-check_send.ensures.small in
     omega (arith, same, small)
 
 pub returns-in-Ok-start_planned-clause-begun : goal.returns-in-Ok-start_planned-clause-begun
 returns-in-Ok-start_planned-clause-begun g c =
     let s = c.args.self.now.state in
-    let b : HasStarted s c.args.txn c.in_ok-number.number (Sending c.args.sender) (Chain (Send c.args.sender c.args.tag c.args.body.now)) c.start_planned.new.self.state = (c.in-Ok-start_planned.ensures.started (Chain (Send c.args.sender c.args.tag c.args.body.now)) (chained c.in-Ok.op.level c.in-Ok.op.bytes _ (c.in-Ok.ensures.told c.in_ok-check_send.ensures.short))).begun in (
+    let p = c.in-Ok-start_planned.ensures.tried (Chain (Send c.args.sender c.args.tag c.args.body.now)) (chained c.in-Ok.op.level c.in-Ok.op.bytes _ (c.in-Ok.ensures.told c.in_ok-check_send.ensures.short)) in (
       refl,
       c.in_ok-check_send.ensures.tested c.in_ok-number.ensures.passes,
-      begun_by s c.args.txn c.in_ok-number.number (Sending c.args.sender) (s.cells_in_use + 1) (Chain (Send c.args.sender c.args.tag c.args.body.now)) b.plan _ c.in_ok-number.ensures.ready b.planned.asked
-          (ap (λ (x : State). record x { cells_in_use = x.cells_in_use + 1 }) (state_is c.self-2.view_is ∙ b.state)),
+      begun_by s c.args.txn c.in_ok-number.number (Sending c.args.sender) (s.cells_in_use + 1) (Chain (Send c.args.sender c.args.tag c.args.body.now)) p.begun.plan _ c.in_ok-number.ensures.ready p.begun.asked
+          (ap (λ (x : State). record x { cells_in_use = x.cells_in_use + 1 }) (ap (with_images_of s) (state_is c.self-2.view_is) ∙ p.begun.state)),
     )
 
 pub returns-in-Ok-start_planned-clause-devices : goal.returns-in-Ok-start_planned-clause-devices
 returns-in-Ok-start_planned-clause-devices g c =
-    let s = c.args.self.now.state in
-    let b : HasStarted s c.args.txn c.in_ok-number.number (Sending c.args.sender) (Chain (Send c.args.sender c.args.tag c.args.body.now)) c.start_planned.new.self.state = (c.in-Ok-start_planned.ensures.started (Chain (Send c.args.sender c.args.tag c.args.body.now)) (chained c.in-Ok.op.level c.in-Ok.op.bytes _ (c.in-Ok.ensures.told c.in_ok-check_send.ensures.short))).begun in
-    let d = c.in-Ok-start_planned.ensures.devices in
-    let v = c.self-2.view_is in
-    devices_begun g.P.PageDevice c.args.self.now _ _ _ _ (ap (λ (o : OpenStore _ _). o.pages) v ∙ d.0, ap (λ (o : OpenStore _ _). o.log) v ∙ d.1, ap (λ (o : OpenStore _ _). o.changed) v ∙ d.2, ap (λ (o : OpenStore _ _). o.replacing) v ∙ d.3)
-    (ap (λ (x : State). record x { cells_in_use = x.cells_in_use + 1 }) (state_is v ∙ b.state))
+    let p = c.in-Ok-start_planned.ensures.tried (Chain (Send c.args.sender c.args.tag c.args.body.now)) (chained c.in-Ok.op.level c.in-Ok.op.bytes _ (c.in-Ok.ensures.told c.in_ok-check_send.ensures.short)) in
+    subst (λ (o : OpenStore _ _). KeepsDevices g.P.PageDevice c.args.self.now o) (sym c.self-2.view_is) p.devices
 
 pub returns-clause-refused : goal.returns-clause-refused
 returns-clause-refused g c =
-    let p = c.in-Err.ensures.started (Chain (Send c.args.sender c.args.tag c.args.body.now)) (chained c.in-Ok.op.level c.in-Ok.op.bytes _ (c.in-Ok.ensures.told c.in_ok-check_send.ensures.short)) in
-    planned_leaves c.args.self.now c.start_planned.new.self (Start_send c.args.txn (message_of c.args.sender c.args.tag c.args.body.now)) refl (c.in_ok-check_send.ensures.tested c.in_ok-number.ensures.passes) _ c.in-Err.refusal p.causes c.in-Err.ensures.refused
+    let p = c.in-Err.ensures.tried (Chain (Send c.args.sender c.args.tag c.args.body.now)) (chained c.in-Ok.op.level c.in-Ok.op.bytes _ (c.in-Ok.ensures.told c.in_ok-check_send.ensures.short)) in
+    tried_leaves c.args.self.now c.start_planned.new.self (Start_send c.args.txn (message_of c.args.sender c.args.tag c.args.body.now)) refl (c.in_ok-check_send.ensures.tested c.in_ok-number.ensures.passes) c.in-Err.refusal p.causes p.read.lists
 
 pub returns-in-Ok-start_planned-clause-faults : goal.returns-in-Ok-start_planned-clause-faults
-returns-in-Ok-start_planned-clause-faults g c = ap (λ (o : OpenStore _ _). g.P.PageDevice.faults o.pages) c.self-2.view_is ∙ ap g.P.PageDevice.faults c.in-Ok-start_planned.ensures.devices.0
+returns-in-Ok-start_planned-clause-faults g c = ap (λ (o : OpenStore _ _). g.P.PageDevice.faults o.pages) c.self-2.view_is ∙ (c.in-Ok-start_planned.ensures.tried (Chain (Send c.args.sender c.args.tag c.args.body.now)) (chained c.in-Ok.op.level c.in-Ok.op.bytes _ (c.in-Ok.ensures.told c.in_ok-check_send.ensures.short))).counts
 
 pub returns-clause-faults : goal.returns-clause-faults
-returns-clause-faults g c =
-    let p = c.in-Err.ensures.started (Chain (Send c.args.sender c.args.tag c.args.body.now)) (chained c.in-Ok.op.level c.in-Ok.op.bytes _ (c.in-Ok.ensures.told c.in_ok-check_send.ensures.short)) in
-    planned_counts g.P.PageDevice _ c.in-Err.refusal p.causes c.args.self.now c.start_planned.new.self c.in-Err.ensures.refused
+returns-clause-faults g c = (c.in-Err.ensures.tried (Chain (Send c.args.sender c.args.tag c.args.body.now)) (chained c.in-Ok.op.level c.in-Ok.op.bytes _ (c.in-Ok.ensures.told c.in_ok-check_send.ensures.short))).counts
+
+pub returns-clause-sizes : goal.returns-clause-sizes
+returns-clause-sizes g c = (c.in-Err.ensures.tried (Chain (Send c.args.sender c.args.tag c.args.body.now)) (chained c.in-Ok.op.level c.in-Ok.op.bytes _ (c.in-Ok.ensures.told c.in_ok-check_send.ensures.short))).devices.0.sizes
+
+pub returns-clause-devices : goal.returns-clause-devices
+returns-clause-devices g c = (c.in-Err.ensures.tried (Chain (Send c.args.sender c.args.tag c.args.body.now)) (chained c.in-Ok.op.level c.in-Ok.op.bytes _ (c.in-Ok.ensures.told c.in_ok-check_send.ensures.short))).devices
 
 pub returns-in_err-number-clause-refused : goal.returns-in_err-number-clause-refused
 returns-in_err-number-clause-refused g c =

@@ -4,21 +4,20 @@ use Rattle.rq_model.specs.History.Call.{Undo_next}
 use Rattle.rq_model.specs.Tests.{log_full, undo_cost}
 use Rattle.rq_txn.specs.declared.Aim.TheVariants.{Undoing}
 use Rattle.rq_txn.specs.declared.Finished.{Finished}
-use Rattle.rq_store.specs.State.{State, ledger_of, op_done}
+use Rattle.rq_store.specs.State.{ledger_of, op_done}
 use Rattle.rq_sound.specs.Latching.{IsLatched}
 use Rattle.rq_planner.proofs.Options.{some_told}
 use Rattle.rq_engine.specs.Aborts.{IsTurnedBack, UndoIsLatched}
 use Rattle.rq_engine.specs.Answers.{Refuses}
 use Rattle.rq_engine.specs.Applied.{OnLatched}
 use Rattle.rq_engine.specs.Earlier.{on}
-use Rattle.rq_engine.specs.KeptUp.{with_images_of}
 use Rattle.rq_engine.specs.Invariant.{IsDoneConsistent, IsLogged, end_of}
 use Rattle.rq_engine.proofs.AbortCalls.{cost_found, is_newest, is_newest_of, may_be_undone, none_done, turned_newest, undo_done, undo_full, undo_memory, undo_refused}
 use Rattle.rq_engine.proofs.Earlier.{full_on}
 use Rattle.rq_engine.proofs.Latches.{undo_latched, undo_unlatched}
 use Rattle.rq_engine.proofs.Leveled.{refused_for}
 use Rattle.rq_engine.proofs.Opened.{state_is}
-use Rattle.rq_engine.proofs.KeptUp.{devices_begun, planned_counts, planned_leaves}
+use Rattle.rq_engine.proofs.KeptUp.{read_state, tried_leaves}
 use Rattle.rq_engine.proofs.Tested.{undo_log_full, undo_tested, undo_unready}
 use Rattle.rq_engine.proofs.engine.Engine.undo_next.Goals as goal
 
@@ -53,25 +52,25 @@ returns-in-Ok-clause-answered g c h earlier long =
     let f = c.in-Some.done in
     let back : IsTurnedBack s c.args.txn c.in_ok-number.number (Some f) = subst (λ (o : Option Finished). IsTurnedBack s c.args.txn c.in_ok-number.number o) (is_newest_of c.args.self.now.state _ c.args.txn _ _ (state_is c.self.view_is) c.next_undo.ensures c.in-Some.is) c.in_ok-number.ensures.ready in
     let room : log_full (ledger_of s) (undo_cost (Some (op_done f))) ≡ false = ap (log_full (ledger_of s)) (sym c.undo_records.ensures) ∙ full_on earlier c.args.self.now.state long _ ∙ sym c.if-is_log_full.ensures in
-    let b = c.in-Ok.ensures.started.begun in
+    let b = (c.in-Ok.ensures.started h.0).begun in
     undo_done s c.args.txn c.in_ok-number.number f c.in_ok-number.ensures.passes back _ (record { number = c.in_ok-number.number; writes = b.writes; made = 0; aim = Undoing f.lsn f.deed }) c.in_ok-number.ensures.running refl b.planned.free
     (record { made = refl; aim = refl; plan = b.planned.planned }) room (ap (on earlier) b.state)
 
 pub returns-in-Ok-clause-sizes : goal.returns-in-Ok-clause-sizes
-returns-in-Ok-clause-sizes g c = ap (λ (x : State). x.sizes) c.in-Ok.ensures.started.begun.state
+returns-in-Ok-clause-sizes g c = c.in-Ok.ensures.tried.devices.0.sizes
 
 pub returns-in-Ok-clause-latched : goal.returns-in-Ok-clause-latched
 returns-in-Ok-clause-latched g c honest earlier long k =
     let s = on earlier c.args.self.now.state in
     let f = c.in-Some.done in
     let back : IsTurnedBack s c.args.txn c.in_ok-number.number (Some f) = subst (λ (o : Option Finished). IsTurnedBack s c.args.txn c.in_ok-number.number o) (is_newest_of c.args.self.now.state _ c.args.txn _ _ (state_is c.self.view_is) c.next_undo.ensures c.in-Some.is) c.in_ok-number.ensures.ready in
-    undo_unlatched s k c.args.txn f (turned_newest s c.args.txn c.in_ok-number.number (Some f) back) c.in-Ok.ensures.started.free
+    undo_unlatched s k c.args.txn f (turned_newest s c.args.txn c.in_ok-number.number (Some f) back) (c.in-Ok.ensures.started honest).free
 
 pub returns-in-Ok-clause-lists : goal.returns-in-Ok-clause-lists
 returns-in-Ok-clause-lists g c honest =
     let s = c.args.self.now.state in
     let f = c.in-Some.done in
-    let b = c.in-Ok.ensures.started.begun in (
+    let b = (c.in-Ok.ensures.started honest).begun in (
       refl,
       record {
         under = record { number = c.in_ok-number.number; writes = b.writes; made = 0; aim = Undoing f.lsn f.deed };
@@ -89,8 +88,8 @@ returns-in-Err-clause-answered g c h earlier long k =
     let f = c.in-Some.done in
     let back : IsTurnedBack s c.args.txn c.in_ok-number.number (Some f) = subst (λ (o : Option Finished). IsTurnedBack s c.args.txn c.in_ok-number.number o) (is_newest_of c.args.self.now.state _ c.args.txn _ _ (state_is c.self.view_is) c.next_undo.ensures c.in-Some.is) c.in_ok-number.ensures.ready in
     let room : log_full (ledger_of s) (undo_cost (Some (op_done f))) ≡ false = full_on earlier c.args.self.now.state long _ ∙ ap (log_full (ledger_of c.args.self.now.state)) (sym c.undo_records.ensures) ∙ sym c.if-is_log_full.ensures in
-    let p = c.in-Err.ensures.started in
-    rw (c.in-Err.ensures.refused) (refused_for (λ (r : Refusal). Refuses s (Undo_next c.args.txn) r) (UndoIsLatched s f.deed) c.in-Err.refusal p.causes (p.sound earlier long k (is_newest s c.args.txn c.in_ok-number.number f c.in_ok-number.ensures.passes back))
+    let p = c.in-Err.ensures.started h.0 in
+    rw (read_state g.P.PageDevice _ _ c.in-Err.ensures.tried.read h.0) (refused_for (λ (r : Refusal). Refuses s (Undo_next c.args.txn) r) (UndoIsLatched s f.deed) c.in-Err.refusal p.causes (p.sound earlier long k (is_newest s c.args.txn c.in_ok-number.number f c.in_ok-number.ensures.passes back))
     (undo_memory s c.args.txn c.in_ok-number.number f c.in_ok-number.ensures.passes back c.in_ok-number.ensures.running room)
     (undo_refused s c.args.txn c.in_ok-number.number f c.in_ok-number.ensures.passes back (may_be_undone s c.args.txn c.in_ok-number.number f c.in_ok-number.ensures.passes back) room) k)
 
@@ -99,7 +98,7 @@ returns-in-Err-clause-latched g c honest earlier long k =
     let s = on earlier c.args.self.now.state in
     let f = c.in-Some.done in
     let back : IsTurnedBack s c.args.txn c.in_ok-number.number (Some f) = subst (λ (o : Option Finished). IsTurnedBack s c.args.txn c.in_ok-number.number o) (is_newest_of c.args.self.now.state _ c.args.txn _ _ (state_is c.self.view_is) c.next_undo.ensures c.in-Some.is) c.in_ok-number.ensures.ready in
-    let p = c.in-Err.ensures.started in
+    let p = c.in-Err.ensures.started honest in
     refused_for (OnLatched (IsLatched s (Undo_next c.args.txn))) (UndoIsLatched s f.deed) c.in-Err.refusal p.causes (p.sound earlier long k (is_newest s c.args.txn c.in_ok-number.number f c.in_ok-number.ensures.passes back))
     tt (undo_latched s k c.args.txn f (turned_newest s c.args.txn c.in_ok-number.number (Some f) back))
 
@@ -109,7 +108,7 @@ returns-in-Ok-clause-begun g c =
     let f = c.in-Some.done in
     let back : IsTurnedBack s c.args.txn c.in_ok-number.number (Some f) = subst (λ (o : Option Finished). IsTurnedBack s c.args.txn c.in_ok-number.number o) (is_newest_of c.args.self.now.state _ c.args.txn _ _ (state_is c.self.view_is) c.next_undo.ensures c.in-Some.is) c.in_ok-number.ensures.ready in
     let tests = undo_tested c.args.self.now c.args.txn c.in_ok-number.ensures.passes (ap (λ n. log_full (ledger_of s) n) (cost_found s c.args.txn c.in_ok-number.number f c.in_ok-number.ensures.passes back ∙ sym c.undo_records.ensures) ∙ sym c.if-is_log_full.ensures) in
-    let b = c.in-Ok.ensures.started.begun in (
+    let b = c.in-Ok.ensures.tried.begun in (
       refl,
       tests,
       record {
@@ -118,7 +117,7 @@ returns-in-Ok-clause-begun g c =
         number = refl;
         ready = back;
         plan = (refl, refl);
-        lists = ap (with_images_of s) b.state;
+        lists = b.state;
       },
     )
 
@@ -128,7 +127,7 @@ returns-in_default-clause-none g c =
     (refl, ((c.in_ok-number.number, subst (λ (o : Option Finished). IsTurnedBack s c.args.txn c.in_ok-number.number o) (is_newest_of c.args.self.now.state _ c.args.txn _ _ (state_is c.self.view_is) c.next_undo.ensures c.in_default.is) c.in_ok-number.ensures.ready), refl))
 
 pub returns-in-Ok-clause-devices : goal.returns-in-Ok-clause-devices
-returns-in-Ok-clause-devices g c = devices_begun g.P.PageDevice c.args.self.now _ _ _ _ c.in-Ok.ensures.devices c.in-Ok.ensures.started.begun.state
+returns-in-Ok-clause-devices g c = c.in-Ok.ensures.tried.devices
 
 pub returns-in-Err-clause-refused : goal.returns-in-Err-clause-refused
 returns-in-Err-clause-refused g c =
@@ -136,13 +135,19 @@ returns-in-Err-clause-refused g c =
     let f = c.in-Some.done in
     let back : IsTurnedBack s c.args.txn c.in_ok-number.number (Some f) = subst (λ (o : Option Finished). IsTurnedBack s c.args.txn c.in_ok-number.number o) (is_newest_of c.args.self.now.state _ c.args.txn _ _ (state_is c.self.view_is) c.next_undo.ensures c.in-Some.is) c.in_ok-number.ensures.ready in
     let tests = undo_tested c.args.self.now c.args.txn c.in_ok-number.ensures.passes (ap (λ n. log_full (ledger_of s) n) (cost_found s c.args.txn c.in_ok-number.number f c.in_ok-number.ensures.passes back ∙ sym c.undo_records.ensures) ∙ sym c.if-is_log_full.ensures) in
-    planned_leaves c.args.self.now c.start_inverse.new.self (Undo_next c.args.txn) refl tests _ c.in-Err.refusal c.in-Err.ensures.started.causes c.in-Err.ensures.refused
+    tried_leaves c.args.self.now c.start_inverse.new.self (Undo_next c.args.txn) refl tests c.in-Err.refusal c.in-Err.ensures.tried.causes c.in-Err.ensures.tried.read.lists
 
 pub returns-in-Ok-clause-faults : goal.returns-in-Ok-clause-faults
-returns-in-Ok-clause-faults g c = ap g.P.PageDevice.faults c.in-Ok.ensures.devices.0
+returns-in-Ok-clause-faults g c = c.in-Ok.ensures.tried.counts
 
 pub returns-in-Err-clause-faults : goal.returns-in-Err-clause-faults
-returns-in-Err-clause-faults g c = planned_counts g.P.PageDevice _ c.in-Err.refusal c.in-Err.ensures.started.causes c.args.self.now c.start_inverse.new.self c.in-Err.ensures.refused
+returns-in-Err-clause-faults g c = c.in-Err.ensures.tried.counts
+
+pub returns-in-Err-clause-sizes : goal.returns-in-Err-clause-sizes
+returns-in-Err-clause-sizes g c = c.in-Err.ensures.tried.devices.0.sizes
+
+pub returns-in-Err-clause-devices : goal.returns-in-Err-clause-devices
+returns-in-Err-clause-devices g c = c.in-Err.ensures.tried.devices
 
 pub returns-in_err-number-clause-refused : goal.returns-in_err-number-clause-refused
 returns-in_err-number-clause-refused g c =
