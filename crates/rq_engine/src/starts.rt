@@ -53,7 +53,7 @@ impl<P: PageDevice, L: LogDevice, B: Level> Engine<P, L, B> {
         }
     }
 
-    // What its level plans for an operation that is to be done.
+    // What its level plans for an operation that is to be done. Each page stands in a frame, so no read fails.
     fn plan(&mut self, op: &Op) -> Result<Plan, Refusal>
         requires forward { op.now.undo ≡ false }
         requires asked { is_some (task_by op.now.level op.now.bytes) ≡ true }
@@ -69,8 +69,10 @@ impl<P: PageDevice, L: LogDevice, B: Level> Engine<P, L, B> {
         ensures planned { P.honest self.new.pages → (d : Task) → task_by op.now.level op.now.bytes ≡ Some d
             → IsTaskOf self.old.state.sizes d → IsPlanned (known_part self.old.state) (Do d) result }
     {
+        self.pages.shows_framed();
         let room = self.transactions.spare();
-        self.planner.plan(room, &self.pages, &self.transactions, op)
+        self.planner
+            .plan(room, &mut self.pages, &self.transactions, op)
     }
 
     // Takes the lock and the room of an operation that the level of this number planned, and lets it begin. Where that

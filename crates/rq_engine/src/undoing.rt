@@ -126,8 +126,14 @@ impl<P: PageDevice, L: LogDevice, B: Level> Engine<P, L, B> {
         ensures planned { P.honest self.new.pages → (d : Deed) → deed_back told.now ≡ Some d → IsDeedOf self.old.state.sizes d
             → IsPlanned (known_part self.old.state) (Undo d) result }
     {
+        self.pages.shows_framed();
         let room = self.transactions.spare();
-        self.planner
-            .plan_inverse(self.alloc, room, &self.pages, &self.transactions, told)
+        self.planner.plan_inverse(
+            self.alloc,
+            room,
+            &mut self.pages,
+            &self.transactions,
+            told,
+        )
     }
 }

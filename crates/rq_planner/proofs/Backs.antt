@@ -45,7 +45,7 @@ use Rattle.rq_planner.proofs.Gathered.{given_to}
 use Rattle.rq_planner.proofs.Knowing.{cells_known}
 use Rattle.rq_planner.proofs.Replies.{HasGatheredFor, from_wanted, of_undo, wants_undo}
 use Rattle.rq_planner.proofs.Tags.{planned_below, tags_know, unmark_judged}
-use Rattle.rq_planner.specs.Backs.{CanBeTakenBack, IsJudgedBack, IsRefusedBack, IsShut, IsTakingBack, SentLast, TakenLast}
+use Rattle.rq_planner.specs.Backs.{CanBeTakenBack, IsJudgedBack, IsRefusedBack, IsShut, IsTakingBack, MayRefuseBack, SentLast, TakenLast}
 use Rattle.rq_planner.specs.Lawful.{MayRefuse, unlatched_refusal}
 
 -- ---- what was given of slots that hold it
@@ -274,3 +274,10 @@ refused_back z q told why.Latched some may read damaged latched = λ d is can. l
 refused_back z q told (why.Damaged x) some may read damaged latched = λ d is can. damaged d is tt can
 refused_back z q told why.DiskRead some may read damaged latched = absurd (read refl)
 refused_back z q told _ some may read damaged latched = absurd may
+
+pub may_refuse_back : (told : Option Deed) (e : Refusal) → is_some told ≡ true → MayRefuse e → MayRefuseBack told (unlatched_refusal e)
+may_refuse_back told why.NoMemory some may = some
+may_refuse_back told why.Latched some may = tt
+may_refuse_back told (why.Damaged x) some may = tt
+may_refuse_back told why.DiskRead some may = some
+may_refuse_back told _ some may = absurd may

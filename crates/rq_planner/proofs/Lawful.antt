@@ -26,7 +26,7 @@ use Rattle.rq_txn.specs.Told.{IsTold}
 use Rattle.rq_planner.specs.Answered.{IsDeedFor, KnowsCells, deed_of, level_back}
 use Rattle.rq_planner.specs.Asked.{Task, task_by, task_level}
 use Rattle.rq_planner.specs.Asked.Task.{Chain, Tag}
-use Rattle.rq_planner.specs.Lawful.{IsLawfulInverse, IsLawfulPlan, MayRefuse}
+use Rattle.rq_planner.specs.Lawful.{IsLawfulFor, IsLawfulInverse, MayRefuse}
 use Rattle.rq_planner.proofs.Asking.{task_cases}
 
 -- the deed that bytes tell, by its level
@@ -78,7 +78,7 @@ module _ (z : Sizes) (images : List (List ℕ)) (levels : List LevelState) (know
   of_store : (n : ℕ) → n < length levels → (p : Plan) → AreOfSlots (kept_at levels n) p → AreSlotWrites z p.writes.items
   of_store n lt p of = subst (λ y. AreSlotWrites y p.writes.items) ((all_lawful n).no_others (kept_at levels n) z of.sizes (knows.ready n lt) of.told) of.are
 
-  pub lawful_plan : (job : Job) (given : List Given) (latched : List ℕ) (answer : Result Plan Refusal) (after : LevelState) → job.level < length levels → (meaning_of job.level).plans (kept_at levels job.level) job given latched answer after → IfOk answer (IsLawfulPlan z job)
+  pub lawful_plan : (job : Job) (given : List Given) (latched : List ℕ) (answer : Result Plan Refusal) (after : LevelState) → job.level < length levels → (meaning_of job.level).plans (kept_at levels job.level) job given latched answer after → IfOk answer (IsLawfulFor z job)
   lawful_plan job given latched (Err r) after lt m = tt
   lawful_plan job given latched (Ok p) after lt m =
       let n = job.level in
@@ -86,10 +86,12 @@ module _ (z : Sizes) (images : List (List ℕ)) (levels : List LevelState) (know
       let law = all_lawful n in
       let told = is_told n p.deed (law.told k job given latched p after m) in
       record {
-        slots = of_store n lt p (law.slots k job given latched p after m);
-        count = law.count k job given latched p after m;
-        told = told;
-        reply = law.replies k job given latched p after m (told_deed (deed_by n p.deed)) told.reads;
+        lawful = record {
+          slots = of_store n lt p (law.slots k job given latched p after m);
+          count = law.count k job given latched p after m;
+          told = told;
+          reply = law.replies k job given latched p after m (told_deed (deed_by n p.deed)) told.reads;
+        };
         asked = is_asked k job given latched p after m;
       }
 

@@ -1,20 +1,18 @@
 -- Calls that read pages on their way.
 use Rattle.std.specs.Prelude.{IfSome}
-use Rattle.std.proofs.Common.{Option, Some, None, ◌≡◌, ◌⊎◌, ⊎_elim, ℕ, ◌+◌, ◌%◌, ◌^◌, ◌<◌, List, Result, Ok, Err, IfErr, refl, sym, ◌∙◌, ap, subst, inl, inr}
+use Rattle.std.proofs.Common.{Option, Some, None, ◌≡◌, ℕ, List, Result, Ok, Err, IfErr, refl, sym, ◌∙◌, ap, subst}
 use Rattle.rq_model.specs.declared.refusal.Refusal.{Refusal}
 use Rattle.rq_model.specs.declared.refusal.Refusal.TheVariants as why
-use Rattle.rq_disk.specs.Device.{PageAsk}
 use Rattle.rq_disk.specs.declared.device.PageDevice.{Ghosts}
-use Rattle.rq_page.specs.Sizes.{Sizes, page_count}
+use Rattle.rq_page.specs.Sizes.{Sizes}
 use Rattle.rq_level.specs.Lawful.{MayHaveNoPlan}
 use Rattle.rq_level.specs.LevelState.{LevelState}
-use Rattle.rq_pool.specs.Held.{Held, IsFramed}
 use Rattle.rq_pool.specs.Indexed.{AreFlaggedAlike}
 use Rattle.rq_pool.specs.Pooled.{Pooled}
-use Rattle.rq_pool.specs.Fetching.{HasReadFor, IsReadAsStored, MayHaveRead, NotFetched, ReadFails, ReadsTruly}
-use Rattle.rq_pool.proofs.Fetched.{still_read, stored_after}
+use Rattle.rq_pool.specs.Fetching.{HasReadFor, IsReadAsStored, IsUnread, MayHaveRead, ReadFails, ReadsTruly}
+use Rattle.rq_pool.proofs.Fetched.{still_read, stored_after, unread_then}
 use Rattle.rq_planner.specs.Answered.{AreBelow, IsFreeCell, KnowsBelow, KnowsCells}
-use Rattle.rq_planner.specs.Lawful.{IsUnread, MayRefuse, unlatched_refusal, unread_refusal}
+use Rattle.rq_planner.specs.Lawful.{MayRefuse, unlatched_refusal}
 use Rattle.rq_planner.proofs.Knowing.{free_kept, knows_kept, those_kept}
 
 err_is : {X : Type 0} (e r : Refusal) → ◌≡◌ {A = Result X Refusal} (Err e) (Err r) → e ≡ r
@@ -69,26 +67,18 @@ module _ {P : Type 0} (g : Ghosts P) where
   pub reads_passed : {X Y : Type 0} (e r : Refusal) (old new : Pooled P) → (ReadFails g e old new → ReadFails g r old new) → HasReadFor {X = X} g old (Err e) new → HasReadFor {X = Y} g old (Err r) new
   reads_passed e r old new passes f = record { read = f.read; counted = tt; refused = passes f.refused }
 
-  pub fails_unread : (e : Refusal) (old new : Pooled P) → ReadFails g e old new → ReadFails g (unread_refusal e) old new
-  fails_unread why.DiskRead old new fails = fails
-  fails_unread _ old new fails = fails
-
   pub fails_alone : (e : Refusal) (old new : Pooled P) → ReadFails g e old new → ReadFails g (unlatched_refusal e) old new
   fails_alone why.Latched old new fails = fails
   fails_alone _ old new fails = fails
 
--- why a page was not read
-pub is_unread : {P : Type 0} (g : Ghosts P) (n : ℕ) (e : Refusal) (old new : P) → NotFetched g n e old new → IsUnread e
-is_unread g n why.DiskRead old new h = tt
-is_unread g n (why.Damaged x) old new h = tt
-is_unread g n _ old new h = absurd h
+module _ {P : Type 0} (g : Ghosts P) (old new : Pooled P) where
+  -- a page that was not read may refuse a plan
+  pub may_be_unread : (e : Refusal) → IsUnread g old e new → MayRefuse e
+  may_be_unread why.DiskRead is = tt
+  may_be_unread (why.Damaged x) is = tt
+  may_be_unread _ is = absurd is
 
--- a refusal that is passed on as another
-pub may_unread : (e : Refusal) → MayRefuse (unread_refusal e)
-may_unread why.DiskRead = tt
-may_unread (why.Damaged x) = tt
-may_unread _ = tt
-
-pub may_alone : (e : Refusal) → MayRefuse e → MayRefuse (unlatched_refusal e)
-may_alone why.Latched may = tt
-may_alone _ may = may
+  -- the same of any answer
+  pub unread_still : {X : Type 0} (r : Result X Refusal) (first : Pooled P) → MayHaveRead g first old → IfErr r (λ e. IsUnread g old e new) → IfErr r (λ e. IsUnread g first e new)
+  unread_still (Ok x) first read is = tt
+  unread_still (Err e) first read is = unread_then g e first old new read is

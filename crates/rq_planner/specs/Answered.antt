@@ -214,10 +214,11 @@ pub record KnowsThose (Those : ℕ → Type 0) (z : Sizes) (images : List (List 
 abbrev pub KnowsCells : Sizes → List (List ℕ) → List LevelState → Type 0
 KnowsCells z images levels = KnowsThose (IsStoreSlot z) z images levels
 
--- they know those below an address
+-- the slots below an address
 abbrev pub AreBelow : Sizes → ℕ → ℕ → Type 0
 AreBelow z bound a = IsStoreSlot z a × (a < bound)
 
+-- they know those
 abbrev pub KnowsBelow : Sizes → List (List ℕ) → (bound : ℕ) → List LevelState → Type 0
 KnowsBelow z images bound levels = KnowsThose (AreBelow z bound) z images levels
 

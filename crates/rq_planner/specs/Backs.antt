@@ -80,6 +80,13 @@ IsRefusedBack z q told why.NoMemory = is_some told ≡ true
 IsRefusedBack z q told (why.Damaged x) = CannotBeTakenBack z q told
 IsRefusedBack z q told _ = ⊥
 
+-- whatever the device gave: a deed that is told may want memory or a read; else it is damage
+abbrev pub MayRefuseBack : Option Deed → Refusal → Type 0
+MayRefuseBack told why.NoMemory = is_some told ≡ true
+MayRefuseBack told why.DiskRead = is_some told ≡ true
+MayRefuseBack told (why.Damaged x) = Unit {0}
+MayRefuseBack told _ = ⊥
+
 -- a deed has a plan only where the slots hold what its inverse needs, and only otherwise is it refused as damage
 pub record IsJudgedBack (z : Sizes) (q : Slots) (d : Deed) (answer : Result Plan Refusal) : Type 0 where
   pub can : IfOk answer (λ p. CanBeTakenBack z q d)

@@ -1,5 +1,5 @@
 -- What a plan keeps to, and what there is none for, whatever slots its level was given.
-use Rattle.std.specs.Prelude.{◌≡◌, ◌≤◌, Some, length}
+use Rattle.std.specs.Prelude.{ℕ, ◌≡◌, ◌≤◌, Some, length}
 use Rattle.rq_model.specs.declared.refusal.Damage.TheVariants as damage
 use Rattle.rq_model.specs.declared.refusal.Refusal.{Refusal}
 use Rattle.rq_model.specs.declared.refusal.Refusal.TheVariants as why
@@ -16,13 +16,16 @@ use Rattle.rq_txn.specs.Told.{IsTold}
 use Rattle.rq_planner.specs.Answered.{IsDeedFor, deed_of}
 use Rattle.rq_planner.specs.Asked.{Task, task_by}
 
--- It writes slots of the store, three at most. It tells a deed of the job's level, with what is counted of that: the deed that was
--- asked for.
-pub record IsLawfulPlan (z : Sizes) (job : Job) (p : Plan) : Type 0 where
+-- It writes slots of the store, three at most. It tells a deed of its level, with what is counted of that.
+pub record IsLawfulPlan (z : Sizes) (level : ℕ) (p : Plan) : Type 0 where
   pub slots : AreSlotWrites z p.writes.items
   pub count : length p.writes.items ≤ 3
-  pub told : IsTold job.level p.deed
-  pub reply : p.reply ≡ replies.Deed (gist_of (told_deed (deed_by job.level p.deed)))
+  pub told : IsTold level p.deed
+  pub reply : p.reply ≡ replies.Deed (gist_of (told_deed (deed_by level p.deed)))
+
+-- and the deed that a job asked for
+pub record IsLawfulFor (z : Sizes) (job : Job) (p : Plan) : Type 0 where
+  pub lawful : IsLawfulPlan z job.level p
   pub asked : (d : Task) → task_by job.level job.bytes ≡ Some d → IsDeedFor d (deed_of d p)
 
 -- what takes a deed back tells none, and nothing is counted of it
@@ -43,14 +46,3 @@ MayRefuse r = ⊥
 abbrev pub unlatched_refusal : Refusal → Refusal
 unlatched_refusal why.Latched = why.Damaged (damage.Page 0)
 unlatched_refusal r = r
-
--- why a page was not read: its device failed, or has lied
-abbrev pub IsUnread : Refusal → Type 0
-IsUnread why.DiskRead = Unit {0}
-IsUnread (why.Damaged x) = Unit {0}
-IsUnread r = ⊥
-
-abbrev pub unread_refusal : Refusal → Refusal
-unread_refusal why.DiskRead = why.DiskRead
-unread_refusal (why.Damaged x) = why.Damaged x
-unread_refusal _ = why.Damaged (damage.Page 0)

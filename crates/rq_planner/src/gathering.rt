@@ -6,7 +6,7 @@ ghost use Rattle.rq_pool.specs.Fetching.{HasReadFor, ReadsTruly};
 ghost use Rattle.rq_txn.specs.Rows.{latched_in};
 ghost use Rattle.rq_planner.specs.Answered.{HasGathered, IsAnswered, IsGivenMore, IsWithheld, KnowsCells, wants_of};
 ghost use Rattle.rq_planner.specs.Asked.{known_from};
-ghost use Rattle.rq_planner.specs.Lawful.{MayRefuse, unread_refusal};
+ghost use Rattle.rq_planner.specs.Lawful.{MayRefuse};
 
 use rq_disk::PageDevice;
 use rq_level::{Level, Levels, Op, Slots, Want};
@@ -72,18 +72,6 @@ fn give<P: PageDevice>(
             Err(_) => Err(Refusal::NoMemory),
         },
         Ok(false) => Err(Refusal::Damaged(Damage::Page(0))),
-        Err(refusal) => Err(unread(refusal)),
-    }
-}
-
-// Why a page was not read.
-fn unread(refusal: Refusal) -> Refusal
-    ensures { result ≡ unread_refusal refusal }
-{
-    match refusal {
-        Refusal::DiskRead => Refusal::DiskRead,
-        Refusal::Damaged(damage) => Refusal::Damaged(damage),
-        // A read is refused for no other cause.
-        _ => Refusal::Damaged(Damage::Page(0)),
+        Err(refusal) => Err(refusal),
     }
 }

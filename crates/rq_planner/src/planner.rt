@@ -7,14 +7,14 @@ ghost use Rattle.rq_views.specs.Stored.{IsStoreSlot, slot_at, slots_in};
 ghost use Rattle.rq_level.specs.Asked.{deed_back, job_back};
 ghost use Rattle.rq_level.specs.Writes.{AreSlotWrites, answer_of};
 ghost use Rattle.rq_level.specs.Meaning.{AppliesOnce, AreTold, kept_at, meaning_of, redo_of};
-ghost use Rattle.rq_pool.specs.Fetching.{HasReadFor, ReadsTruly};
+ghost use Rattle.rq_pool.specs.Fetching.{HasReadFor, IsUnread, ReadsTruly};
 ghost use Rattle.rq_pool.specs.Pooled.{image_at};
 ghost use Rattle.rq_pool.specs.Writing.{IsRedoAt};
 ghost use Rattle.rq_planner.specs.Answered.{IsAnswered, IsAnsweredBack, IsPlannedAlone, IsPlannedBy, KnowsCells, MayPlan, level_back, wants_of};
 ghost use Rattle.rq_planner.specs.Asked.{known_from};
-ghost use Rattle.rq_planner.specs.Backs.{IsJudgedBack, IsRefusedBack, IsTakingBack};
+ghost use Rattle.rq_planner.specs.Backs.{IsJudgedBack, IsRefusedBack, IsTakingBack, MayRefuseBack};
 ghost use Rattle.rq_planner.specs.Handed.{AreForStores};
-ghost use Rattle.rq_planner.specs.Lawful.{IsLawfulInverse, IsLawfulPlan, IsUnread, MayRefuse, unlatched_refusal};
+ghost use Rattle.rq_planner.specs.Lawful.{IsLawfulFor, IsLawfulInverse, MayRefuse, unlatched_refusal};
 ghost use Rattle.rq_planner.specs.PageUndos.{NotPutBackFor, PutsBackWrite};
 
 use crate::handed::StoreLevels;
@@ -75,7 +75,7 @@ impl<B: Level> Planner<B> {
         requires { AreForStores self.old }
         ensures read { HasReadFor P.PageDevice pages.old result pages.new }
         ensures known { OnOk result (KnowsCells pages.new.sizes pages.new.images self.new) }
-        ensures causes { IfErr result IsUnread }
+        ensures causes { IfErr result (λ e. IsUnread P.PageDevice pages.old e pages.new) }
     {
         tell_store(pages, &mut self.levels)
     }
@@ -114,7 +114,7 @@ impl<B: Level> Planner<B> {
         requires forward { op.now.undo ≡ false }
         ensures same { self.new ≡ self.old }
         ensures read { HasReadFor P.PageDevice pages.old result pages.new }
-        ensures lawful { IfOk result (IsLawfulPlan pages.old.sizes op.now) }
+        ensures lawful { IfOk result (IsLawfulFor pages.old.sizes op.now) }
         ensures causes { IfErr result MayRefuse }
         ensures answered { ReadsTruly P.PageDevice pages.old result pages.new
             → IsAnswered (known_from pages.old transactions.now) (wants_of self.old op.now.level) op.now
@@ -185,7 +185,7 @@ impl<B: Level> Planner<B> {
         ensures same { self.new ≡ self.old }
         ensures read { HasReadFor P.PageDevice pages.old result pages.new }
         ensures lawful { IfOk result (λ writes. AreSlotWrites pages.old.sizes writes.items) }
-        ensures causes { IfErr result MayRefuse }
+        ensures causes { IfErr result (MayRefuseBack (deed_back told.now)) }
         ensures answered { ReadsTruly P.PageDevice pages.old result pages.new → IfOk result (λ writes.
             IsPlannedAlone pages.old.sizes pages.old.images self.old told.now writes.items) }
         ensures plan { ReadsTruly P.PageDevice pages.old result pages.new → IfOk result (λ writes. IsTakingBack pages.old.sizes

@@ -6,7 +6,7 @@ ghost use Rattle.rq_level.specs.Meaning.{kept_at, meaning_of};
 ghost use Rattle.rq_pool.specs.Fetching.{HasReadFor, ReadsTruly};
 ghost use Rattle.rq_planner.specs.Answered.{IsAnswered, IsAnsweredBack, KnowsCells, MayPlan, level_back, wants_of};
 ghost use Rattle.rq_planner.specs.Asked.{known_from};
-ghost use Rattle.rq_planner.specs.Lawful.{IsLawfulInverse, IsLawfulPlan, MayRefuse};
+ghost use Rattle.rq_planner.specs.Lawful.{IsLawfulFor, IsLawfulInverse, MayRefuse};
 
 use crate::gathering::gather;
 use crate::telling::give_back;
@@ -36,7 +36,7 @@ pub(crate) fn plan<P: PageDevice, B: Level>(
     requires level { op.now.level < length levels.old }
     ensures same { levels.new ≡ levels.old }
     ensures read { HasReadFor P.PageDevice pages.old result pages.new }
-    ensures lawful { IfOk result (IsLawfulPlan pages.old.sizes op.now) }
+    ensures lawful { IfOk result (IsLawfulFor pages.old.sizes op.now) }
     ensures causes { IfErr result MayRefuse }
     ensures answered { ReadsTruly P.PageDevice pages.old result pages.new
         → IsAnswered (known_from pages.old transactions.now) (wants_of levels.old op.now.level) op.now

@@ -5,10 +5,9 @@ ghost use Rattle.rq_page.specs.Sizes.{IsCellAddress, cell_at, client_slot_at, di
 ghost use Rattle.rq_views.specs.InStore.{IsClientAddress};
 ghost use Rattle.rq_views.specs.Stored.{IsStoreSlot, slot_at};
 ghost use Rattle.rq_level.specs.Meaning.{AreTold, kept_at, meaning_of};
-ghost use Rattle.rq_pool.specs.Fetching.{HasReadFor};
+ghost use Rattle.rq_pool.specs.Fetching.{HasReadFor, IsUnread};
 ghost use Rattle.rq_planner.specs.Answered.{IsFreeCell, IsOverFree, KnowsBelow, KnowsCells, MayBeTold};
 ghost use Rattle.rq_planner.specs.Handed.{AreForStores};
-ghost use Rattle.rq_planner.specs.Lawful.{IsUnread};
 
 use rq_disk::PageDevice;
 use rq_level::{Level, Levels, Plan, SlotWrite};
@@ -83,7 +82,7 @@ pub(crate) fn tell_store<P: PageDevice, B: Level>(
     ensures count { length levels.new ≡ length levels.old }
     ensures read { HasReadFor P.PageDevice pages.old result pages.new }
     ensures known { OnOk result (KnowsCells pages.new.sizes pages.new.images levels.new) }
-    ensures causes { IfErr result IsUnread }
+    ensures causes { IfErr result (λ e. IsUnread P.PageDevice pages.old e pages.new) }
 {
     tell_sizes(pages, levels);
     match tell_senders(pages, levels) {
@@ -106,7 +105,7 @@ fn tell_senders<P: PageDevice, B: Level>(
     ensures count { length levels.new ≡ length levels.old }
     ensures read { HasReadFor P.PageDevice pages.old result pages.new }
     ensures known { OnOk result (KnowsBelow pages.new.sizes pages.new.images (cell_at pages.new.sizes 0) levels.new) }
-    ensures causes { IfErr result IsUnread }
+    ensures causes { IfErr result (λ e. IsUnread P.PageDevice pages.old e pages.new) }
 {
     let layout = pages.layout();
     for sender in 0..layout.senders() {
@@ -127,7 +126,7 @@ fn tell_cells<P: PageDevice, B: Level>(
     ensures count { length levels.new ≡ length levels.old }
     ensures read { HasReadFor P.PageDevice pages.old result pages.new }
     ensures known { OnOk result (KnowsBelow pages.new.sizes pages.new.images (client_slot_at pages.new.sizes 0) levels.new) }
-    ensures causes { IfErr result IsUnread }
+    ensures causes { IfErr result (λ e. IsUnread P.PageDevice pages.old e pages.new) }
 {
     let layout = pages.layout();
     let empty = CellSlot::Free.encode();
@@ -153,7 +152,7 @@ fn tell_clients<P: PageDevice, B: Level>(
     ensures count { length levels.new ≡ length levels.old }
     ensures read { HasReadFor P.PageDevice pages.old result pages.new }
     ensures known { OnOk result (KnowsCells pages.new.sizes pages.new.images levels.new) }
-    ensures causes { IfErr result IsUnread }
+    ensures causes { IfErr result (λ e. IsUnread P.PageDevice pages.old e pages.new) }
 {
     let layout = pages.layout();
     for client in 0..layout.clients() {
@@ -211,7 +210,7 @@ fn tell_cell<P: PageDevice, B: Level>(
     ensures count { length levels.new ≡ length levels.old }
     ensures read { HasReadFor P.PageDevice pages.old result pages.new }
     ensures told { OnOk result (AreTold at (slot_at pages.new.images at) levels.old levels.new) }
-    ensures causes { IfErr result IsUnread }
+    ensures causes { IfErr result (λ e. IsUnread P.PageDevice pages.old e pages.new) }
 {
     if is_at(free, at) {
         pages.layout();
@@ -253,7 +252,7 @@ fn tell<P: PageDevice, B: Level>(
     ensures count { length levels.new ≡ length levels.old }
     ensures read { HasReadFor P.PageDevice pages.old result pages.new }
     ensures told { OnOk result (AreTold at (slot_at pages.new.images at) levels.old levels.new) }
-    ensures causes { IfErr result IsUnread }
+    ensures causes { IfErr result (λ e. IsUnread P.PageDevice pages.old e pages.new) }
 {
     let _layout = pages.layout();
     match pages.look(at.page() as u32) {

@@ -1,6 +1,7 @@
 -- Pages that all stand in frames, and pages that were read again one after the other.
 use Rattle.std.proofs.Common.{Bool, false, [], ◌∷◌, ◌++◌, slice_index_or, slice_set, ◌≡◌, ℕ, zero, suc, ◌+◌, ◌%◌, ◌^◌, ◌⊎◌, ◌<◌, ◌≤◌, List, Result, length, refl, sym, ap, subst, arith, ◌∙◌, inl, inr, Ok, Err, ⊎_elim}
 use Rattle.std.proofs.lemmas.Bool.{false≢true, true≢false}
+use Rattle.rq_model.specs.declared.refusal.Damage.{Damage}
 use Rattle.rq_model.specs.declared.refusal.Damage.TheVariants as damage
 use Rattle.rq_model.specs.declared.refusal.Refusal.{Refusal}
 use Rattle.rq_model.specs.declared.refusal.Refusal.TheVariants as why
@@ -11,7 +12,7 @@ use Rattle.rq_pool.specs.Pooled.{Pooled}
 use Rattle.rq_pool.specs.Held.{Held, IsFixed, IsFramed, IsSetAt, fixed_at, page_at}
 use Rattle.rq_pool.specs.Frames.{IsFirstFixed, in_order}
 use Rattle.rq_pool.specs.Reading.{OnlyRead}
-use Rattle.rq_pool.specs.Fetching.{AreAllFramed, Fetches, HasFailed, HasOutside, HasReadFor, IsAtHand, IsReadAsStored, MayHaveRead, NotFetched, ReadFails}
+use Rattle.rq_pool.specs.Fetching.{AreAllFramed, Fetches, HasFailed, HasOutside, HasReadFor, IsAtHand, IsReadAsStored, IsUnread, MayHaveRead, NotFetched, ReadFails, ReadsTruly}
 use Rattle.rq_pool.proofs.KeptUp.{kept_still, kept_then}
 use Rattle.rq_pool.proofs.Readings.{only_read_on}
 
@@ -186,3 +187,30 @@ module _ {P : Type 0} (g : Ghosts P) where
   pub reads_then : {X : Type 0} (r : Result X Refusal) (old mid new : Pooled P) → MayHaveRead g old mid → g.faults mid.device ≡ g.faults old.device → HasReadFor g mid r new → HasReadFor g old r new
   reads_then (Ok x) old mid new read same f = reads_on x x old mid new read same f
   reads_then (Err e) old mid new read same f = stops_on e old mid new read same f
+
+  -- where each page stands in a frame, nothing is read
+  pub framed_reads : {X : Type 0} (r : Result X Refusal) (old new : Pooled P) → AreAllFramed old → HasReadFor g old r new → ReadsTruly g old r new
+  framed_reads {X} r old new all f = (inl all, λ failed. unread (subst (λ (x : Result X Refusal). HasReadFor g old x new) failed f)) where
+    unread : HasReadFor {X = X} g old (Err why.DiskRead) new → ⊥
+    unread h = let out = h.refused.0 in out.outside (all out.page out.behind out.within)
+
+  -- what is told of a page that was not read
+  pub is_unread : {X : Type 0} (n : ℕ) (e : Refusal) (old new : Pooled P) → 1 ≤ n → n < page_count old.sizes → Fetches {X = X} g n old (Err e) new → IsUnread g old e new
+  is_unread n why.DiskRead old new low high f = tt
+  is_unread {X} n (why.Damaged x) old new low high f = lied x f where
+    lied : (x : Damage) → Fetches {X = X} g n old (Err (why.Damaged x)) new → IsReadAsStored g old new → ⊥
+    lied (damage.Page m) f stored = ⊎_elim (λ all. false≢true (f.stood (inl (all n low high))).0) (λ h. f.refused.1 h) stored
+    lied _ f stored = f.refused
+  is_unread n _ old new low high f = absurd f.refused
+
+  -- some were read, and then one was not
+  pub unread_then : (e : Refusal) (old mid new : Pooled P) → MayHaveRead g old mid → IsUnread g mid e new → IsUnread g old e new
+  unread_then why.DiskRead old mid new read is = tt
+  unread_then (why.Damaged x) old mid new read is = λ stored. is (stored_after old mid new read stored)
+  unread_then _ old mid new read is = absurd is
+
+  -- none is where each is read as it is stored
+  pub unread_truly : {X : Type 0} (e : Refusal) (old new : Pooled P) → IsUnread g old e new → ReadsTruly {X = X} g old (Err e) new → ⊥
+  unread_truly why.DiskRead old new is truly = truly.1 refl
+  unread_truly (why.Damaged x) old new is truly = is truly.0
+  unread_truly _ old new is truly = absurd is

@@ -85,3 +85,9 @@ IsReadAsStored g old new = AreAllFramed old ⊎ g.honest new.device
 -- And each that had to be read was.
 abbrev pub ReadsTruly : {P X : Type 0} → Ghosts P → Pooled P → Result X Refusal → Pooled P → Type 0
 ReadsTruly g old result new = IsReadAsStored g old new × (result ≡ Err why.DiskRead → ⊥)
+
+-- why a page was not read on the way of a call: its device failed, or has lied, as some page stood in no frame
+abbrev pub IsUnread : {P : Type 0} → Ghosts P → Pooled P → Refusal → Pooled P → Type 0
+IsUnread g old why.DiskRead new = Unit {0}
+IsUnread g old (why.Damaged x) new = IsReadAsStored g old new → ⊥
+IsUnread g old r new = ⊥

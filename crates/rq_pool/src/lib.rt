@@ -1,7 +1,7 @@
 //! The pages of the store, all of them in memory, over their device.
 #![tactic(auto)]
 
-ghost use Rattle.std.specs.Prelude.{◌≡◌, ◌≢◌, ◌↔◌, ◌<◌, ◌≤◌, ◌+◌, ◌/◌, ◌%◌, ℕ, true, false, Err, IsOk, IsSome, IsTrue, IfSome, IfNone, IfErr, IfOk, OnOk, length, replicate, slice_set};
+ghost use Rattle.std.specs.Prelude.{◌≡◌, ◌≢◌, ◌↔◌, ◌<◌, ◌≤◌, ◌+◌, ◌/◌, ◌%◌, ℕ, true, false, Err, IsSome, IsTrue, IfSome, IfNone, IfErr, IfOk, OnOk, length, replicate, slice_set};
 ghost use Rattle.std.specs.Bool.{OnFalse};
 ghost use Rattle.rq_page.specs.Sizes.{IsCellAddress, page_count, sender_count, client_count, client_slot_at, directory_at, place_of};
 ghost use Rattle.rq_page.specs.Pages.{IsWritten, lsn_of};
@@ -158,7 +158,7 @@ impl<P: PageDevice + Drop> Pages<P> {
 impl<P: PageDevice> Pages<P> {
     ghost use Rattle.rq_pool.specs.Writing.{AnswersWhen, DeviceAfter, HasChangeBeyond, IsRedoAt, IsUnwritten, MayHaveSynced, NoChangeBeyond, changed_after};
     ghost use Rattle.rq_pool.specs.Pooled.{AreOver};
-    ghost use Rattle.rq_pool.specs.Fetching.{AreAllFramed, Fetches, HasReadFor, IsAtHand, ReadsTruly};
+    ghost use Rattle.rq_pool.specs.Fetching.{AreAllFramed, Fetches, HasReadFor, IsAtHand, IsUnread};
 
     /// What is so of the pages of each store, for proofs: it runs no code. Where the device has been honest, each page
     /// that doesn't count as changed reads there as its image.
@@ -339,7 +339,7 @@ impl<P: PageDevice> Pages<P> {
         ensures known { IfOk result (λ stands. IsTrue stands ↔ IsStoreSlot self.old.sizes at) }
         ensures hand { IfOk result (λ stands. IsTrue stands → IsAtHand self.new (at / 16)) }
         ensures read { HasReadFor P.PageDevice self.old result self.new }
-        ensures done { ReadsTruly P.PageDevice self.old result self.new → IsOk result }
+        ensures causes { IfErr result (λ e. IsUnread P.PageDevice self.old e self.new) }
     {
         let page = at.page();
         if page == 0 || page >= self.layout().pages() as u64 || at.slot() == 0 {

@@ -3,7 +3,7 @@ use Rattle.rq_page.specs.Sizes.{Sizes}
 use Rattle.rq_views.specs.Stored.{IsStoreSlot}
 use Rattle.rq_pool.specs.Fetching.{IsAtHand}
 use Rattle.rq_pool.proofs.Fetched.{fetched_reads, unfetched_reads}
-use Rattle.rq_planner.proofs.Readings.{is_unread}
+use Rattle.rq_pool.proofs.Fetched.{is_unread}
 use Rattle.rq_planner.proofs.telling.tell.Goals as goal
 
 pub overflow_cast-page : goal.overflow_cast-page
@@ -39,4 +39,8 @@ returns-in-Err-clause-read g c =
     unfetched_reads g.P.PageDevice c.page.result c.args.pages.now c.look.new.self c.in-Err.refusal (omega (arith, is, low)) (omega (arith, is, high)) c.in-Err.ensures
 
 pub returns-in-Err-clause-causes : goal.returns-in-Err-clause-causes
-returns-in-Err-clause-causes g c = is_unread g.P.PageDevice c.page.result c.in-Err.refusal c.args.pages.now.device c.look.new.self.device c.in-Err.ensures.refused
+returns-in-Err-clause-causes g c =
+    let is = c.page.ensures in
+    let low = c.requires.page_low in
+    let high = c.requires.page_high in
+    is_unread g.P.PageDevice c.page.result c.in-Err.refusal c.args.pages.now c.look.new.self (omega (arith, is, low)) (omega (arith, is, high)) c.in-Err.ensures

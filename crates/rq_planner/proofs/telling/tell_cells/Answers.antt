@@ -7,6 +7,7 @@ use Rattle.rq_pool.proofs.Fetched.{read_then, still_read}
 use Rattle.rq_planner.specs.Answered.{IsFreeCell, KnowsBelow}
 use Rattle.rq_planner.proofs.Knowing.{clients_behind, next_below}
 use Rattle.rq_pool.proofs.Fetched.{reads_then}
+use Rattle.rq_pool.proofs.Fetched.{unread_then}
 use Rattle.rq_planner.proofs.Readings.{below_read, free_read, sizes_read}
 use Rattle.rq_planner.proofs.telling.tell_cells.Goals as goal
 
@@ -64,3 +65,6 @@ returns-clause-known g c =
     (let low = c.loop-place.auto.place-end in let high = c.loop-place-test.false in let n = c.cell_slots-place-end.ensures.number in let s = ap (λ (y : Sizes). cell_count y) c.layout-layout.ensures.sizes in omega (arith, low, high, n, s)) in
     subst (λ (y : Sizes). KnowsBelow y images (client_slot_at y 0) levels) (sym (c.loop-place.invariant.read.kept 0).sizes)
     (clients_behind z images levels (subst (λ n. KnowsBelow z images (cell_at z n) levels) end c.loop-place.invariant.known))
+
+pub returns-in-Err-clause-causes : goal.returns-in-Err-clause-causes
+returns-in-Err-clause-causes g c = unread_then g.P.PageDevice c.in-Err.refusal c.args.pages.now c.loop-place.pages c.tell_cell.new.pages c.loop-place.invariant.read c.in-Err.ensures.causes

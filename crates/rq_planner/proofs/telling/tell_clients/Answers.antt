@@ -6,6 +6,7 @@ use Rattle.rq_pool.proofs.Fetched.{read_then, still_read}
 use Rattle.rq_planner.specs.Answered.{KnowsBelow, KnowsCells}
 use Rattle.rq_planner.proofs.Knowing.{all_below, next_below}
 use Rattle.rq_pool.proofs.Fetched.{reads_then}
+use Rattle.rq_pool.proofs.Fetched.{unread_then}
 use Rattle.rq_planner.proofs.Readings.{below_read}
 use Rattle.rq_planner.proofs.telling.tell_clients.Goals as goal
 
@@ -51,3 +52,6 @@ returns-clause-known g c =
     (let low = c.loop-client.auto.client-end in let high = c.loop-client-test.false in let n = c.clients-client-end.ensures.number in let s = ap (λ (y : Sizes). client_count y) c.layout-layout.ensures.sizes in omega (arith, low, high, n, s)) in
     subst (λ (y : Sizes). KnowsCells y images levels) (sym (c.loop-client.invariant.read.kept 0).sizes)
     (all_below z images levels (subst (λ n. KnowsBelow z images (client_slot_at z n) levels) end c.loop-client.invariant.known))
+
+pub returns-in-Err-clause-causes : goal.returns-in-Err-clause-causes
+returns-in-Err-clause-causes g c = unread_then g.P.PageDevice c.in-Err.refusal c.args.pages.now c.loop-client.pages c.tell.new.pages c.loop-client.invariant.read c.in-Err.ensures.causes

@@ -6,6 +6,7 @@ use Rattle.rq_pool.proofs.Fetched.{read_then, still_read}
 use Rattle.rq_planner.specs.Answered.{KnowsBelow}
 use Rattle.rq_planner.proofs.Knowing.{cells_behind, next_below}
 use Rattle.rq_pool.proofs.Fetched.{reads_then}
+use Rattle.rq_pool.proofs.Fetched.{unread_then}
 use Rattle.rq_planner.proofs.Readings.{below_read}
 use Rattle.rq_planner.proofs.telling.tell_senders.Goals as goal
 
@@ -50,3 +51,6 @@ returns-clause-known g c =
     (let low = c.loop-sender.auto.sender-end in let high = c.loop-sender-test.false in let n = c.senders-sender-end.ensures.number in let s = ap (λ (y : Sizes). sender_count y) c.layout-layout.ensures.sizes in omega (arith, low, high, n, s)) in
     subst (λ (y : Sizes). KnowsBelow y images (cell_at y 0) levels) (sym (c.loop-sender.invariant.read.kept 0).sizes)
     (cells_behind z images levels (subst (λ n. KnowsBelow z images (directory_at n) levels) end c.loop-sender.invariant.known))
+
+pub returns-in-Err-clause-causes : goal.returns-in-Err-clause-causes
+returns-in-Err-clause-causes g c = unread_then g.P.PageDevice c.in-Err.refusal c.args.pages.now c.loop-sender.pages c.tell.new.pages c.loop-sender.invariant.read c.in-Err.ensures.causes

@@ -1,7 +1,8 @@
 use Rattle.std.proofs.Common.{Err, arith, ◌∙◌}
-use Rattle.rq_pool.proofs.Fetched.{read_then}
 use Rattle.rq_planner.proofs.Knowing.{none_below}
-use Rattle.rq_pool.proofs.Fetched.{reads_then}
+use Rattle.rq_pool.proofs.Fetched.{read_then, reads_then}
+use Rattle.rq_pool.proofs.Fetched.{unread_then}
+use Rattle.rq_planner.proofs.Readings.{unread_still}
 use Rattle.rq_planner.proofs.telling.tell_store.Goals as goal
 
 pub tell_senders-requires : goal.tell_senders-requires
@@ -28,3 +29,12 @@ returns-clause-read g c =
     reads_then g.P.PageDevice c.tell_clients.result c.args.pages.now c.tell_cells.new.pages c.tell_clients.new.pages
     (read_then g.P.PageDevice c.args.pages.now c.tell_senders.new.pages c.tell_cells.new.pages c.tell_senders.ensures.read.read c.tell_cells.ensures.read.read)
     (c.in-Ok-tell_cells.ensures.read.counted ∙ c.in-Ok.ensures.read.counted) c.tell_clients.ensures.read
+
+pub returns-in-Err-tell_cells-clause-causes : goal.returns-in-Err-tell_cells-clause-causes
+returns-in-Err-tell_cells-clause-causes g c =
+    unread_then g.P.PageDevice c.in-Err-tell_cells.refusal c.args.pages.now c.tell_senders.new.pages c.tell_cells.new.pages c.tell_senders.ensures.read.read c.in-Err-tell_cells.ensures.causes
+
+pub returns-clause-causes : goal.returns-clause-causes
+returns-clause-causes g c =
+    unread_still g.P.PageDevice c.tell_cells.new.pages c.tell_clients.new.pages c.tell_clients.result c.args.pages.now
+    (read_then g.P.PageDevice c.args.pages.now c.tell_senders.new.pages c.tell_cells.new.pages c.tell_senders.ensures.read.read c.tell_cells.ensures.read.read) c.tell_clients.ensures.causes

@@ -3,6 +3,7 @@ use Rattle.rq_views.specs.InStore.{IsDeedOf}
 use Rattle.rq_level.specs.Asked.{job_back}
 use Rattle.rq_txn.specs.Rows.{Row}
 use Rattle.rq_store.specs.State.{State}
+use Rattle.rq_pool.proofs.Fetched.{framed_reads}
 use Rattle.rq_planner.specs.Answered.{IsAnsweredBack, IsPlanned, level_back}
 use Rattle.rq_planner.specs.Asked.{known_from}
 use Rattle.rq_planner.specs.Asked.Asked.{Undo}
@@ -25,14 +26,16 @@ plan_inverse-requires-clause-level g c =
     is_one c.self.inside.pages.sizes c.self.inside.pages.images c.self.inside.planner (level_back told) c.self.invariant.cells ((all_lawful (level_back told)).reads (job_back told).bytes c.requires.reads)
 
 pub invariant_of-self : goal.invariant_of-self
-invariant_of-self g c = record { kept = rw (c.spare-room.ensures) c.self.invariant.kept; durable = c.self.invariant.durable; cells = rw (c.plan_inverse.ensures.same) c.self.invariant.cells }
+invariant_of-self g c =
+    let same = c.plan_inverse.ensures.read.read.stood c.shows_framed.ensures in
+    rw (same) (record { kept = rw (c.spare-room.ensures) c.self.invariant.kept; durable = c.self.invariant.durable; cells = rw (c.plan_inverse.ensures.same) c.self.invariant.cells })
 
 pub returns-clause-answered : goal.returns-clause-answered
 returns-clause-answered g c honest =
     subst (λ (s : State). LevelsAnswer s (to_undo c.args.told.now) c.plan_inverse.result) (state_is c.self.view_is) (record {
       levels = c.self.inside.planner;
       knows = c.self.invariant.cells;
-      answered = subst (λ (rows : List Row). IsAnsweredBack (known_from c.self.inside.pages rows) c.self.inside.planner c.args.told.now c.plan_inverse.result) c.spare-room.ensures c.plan_inverse.ensures.answered;
+      answered = subst (λ (rows : List Row). IsAnsweredBack (known_from c.self.inside.pages rows) c.self.inside.planner c.args.told.now c.plan_inverse.result) c.spare-room.ensures (c.plan_inverse.ensures.answered (framed_reads g.P.PageDevice c.plan_inverse.result c.self.inside.pages c.plan_inverse.new.pages c.shows_framed.ensures c.plan_inverse.ensures.read));
     })
 
 pub returns-clause-lawful : goal.returns-clause-lawful
@@ -41,11 +44,11 @@ returns-clause-lawful g c = subst (λ (s : State). IfOk c.plan_inverse.result (I
 pub returns-clause-planned : goal.returns-clause-planned
 returns-clause-planned g c honest d told =
     subst (λ (s : State). IsDeedOf s.sizes d → IsPlanned (known_part s) (Undo d) c.plan_inverse.result) (state_is c.self.view_is)
-    (subst (λ (rows : List Row). IsDeedOf c.self.inside.pages.sizes d → IsPlanned (known_from c.self.inside.pages rows) (Undo d) c.plan_inverse.result) c.spare-room.ensures (λ own. c.plan_inverse.ensures.planned (Undo d) (asks_back c.args.told.now d told) (has_place c.self.inside.pages.sizes d own)))
+    (subst (λ (rows : List Row). IsDeedOf c.self.inside.pages.sizes d → IsPlanned (known_from c.self.inside.pages rows) (Undo d) c.plan_inverse.result) c.spare-room.ensures (λ own. c.plan_inverse.ensures.planned (framed_reads g.P.PageDevice c.plan_inverse.result c.self.inside.pages c.plan_inverse.new.pages c.shows_framed.ensures c.plan_inverse.ensures.read) (Undo d) (asks_back c.args.told.now d told) (has_place c.self.inside.pages.sizes d own)))
 
 -- no page is read
 pub returns-clause-read : goal.returns-clause-read
-returns-clause-read g c = pages_still g.P.PageDevice _ _ (rw (c.spare-room.ensures) c.self.view_is)
+returns-clause-read g c = pages_still g.P.PageDevice _ _ (rw (c.spare-room.ensures, c.plan_inverse.ensures.read.read.stood c.shows_framed.ensures) c.self.view_is)
 
 pub returns-clause-counts : goal.returns-clause-counts
 returns-clause-counts g c =
@@ -53,9 +56,9 @@ returns-clause-counts g c =
     subst (λ (s : State). LevelsAnswer s (to_undo c.args.told.now) c.plan_inverse.result) (state_is c.self.view_is) (record {
       levels = c.self.inside.planner;
       knows = c.self.invariant.cells;
-      answered = subst (λ (rows : List Row). IsAnsweredBack (known_from c.self.inside.pages rows) c.self.inside.planner c.args.told.now c.plan_inverse.result) c.spare-room.ensures c.plan_inverse.ensures.answered;
+      answered = subst (λ (rows : List Row). IsAnsweredBack (known_from c.self.inside.pages rows) c.self.inside.planner c.args.told.now c.plan_inverse.result) c.spare-room.ensures (c.plan_inverse.ensures.answered (framed_reads g.P.PageDevice c.plan_inverse.result c.self.inside.pages c.plan_inverse.new.pages c.shows_framed.ensures c.plan_inverse.ensures.read));
     }) in
-    counts_still g.P.PageDevice _ _ (rw (c.spare-room.ensures) c.self.view_is) c.plan_inverse.result (back_refused c.args.self.now.state c.args.told.now c.plan_inverse.result answered)
+    counts_still g.P.PageDevice _ _ (rw (c.spare-room.ensures, c.plan_inverse.ensures.read.read.stood c.shows_framed.ensures) c.self.view_is) c.plan_inverse.result (back_refused c.args.self.now.state c.args.told.now c.plan_inverse.result answered)
 
 pub returns-clause-causes : goal.returns-clause-causes
 returns-clause-causes g c =
@@ -63,7 +66,7 @@ returns-clause-causes g c =
     subst (λ (s : State). LevelsAnswer s (to_undo c.args.told.now) c.plan_inverse.result) (state_is c.self.view_is) (record {
       levels = c.self.inside.planner;
       knows = c.self.invariant.cells;
-      answered = subst (λ (rows : List Row). IsAnsweredBack (known_from c.self.inside.pages rows) c.self.inside.planner c.args.told.now c.plan_inverse.result) c.spare-room.ensures c.plan_inverse.ensures.answered;
+      answered = subst (λ (rows : List Row). IsAnsweredBack (known_from c.self.inside.pages rows) c.self.inside.planner c.args.told.now c.plan_inverse.result) c.spare-room.ensures (c.plan_inverse.ensures.answered (framed_reads g.P.PageDevice c.plan_inverse.result c.self.inside.pages c.plan_inverse.new.pages c.shows_framed.ensures c.plan_inverse.ensures.read));
     }) in
     stops_start c.plan_inverse.result (back_refused c.args.self.now.state c.args.told.now c.plan_inverse.result answered)
 
@@ -72,5 +75,5 @@ returns-clause-few g c d told own =
     let s = c.args.self.now.state in
     let planned : IsPlanned (known_part s) (Undo d) c.plan_inverse.result =
     subst (λ (s : State). IsDeedOf s.sizes d → IsPlanned (known_part s) (Undo d) c.plan_inverse.result) (state_is c.self.view_is)
-    (subst (λ (rows : List Row). IsDeedOf c.self.inside.pages.sizes d → IsPlanned (known_from c.self.inside.pages rows) (Undo d) c.plan_inverse.result) c.spare-room.ensures (λ own. c.plan_inverse.ensures.planned (Undo d) (asks_back c.args.told.now d told) (has_place c.self.inside.pages.sizes d own))) own in
+    (subst (λ (rows : List Row). IsDeedOf c.self.inside.pages.sizes d → IsPlanned (known_from c.self.inside.pages rows) (Undo d) c.plan_inverse.result) c.spare-room.ensures (λ own. c.plan_inverse.ensures.planned (framed_reads g.P.PageDevice c.plan_inverse.result c.self.inside.pages c.plan_inverse.new.pages c.shows_framed.ensures c.plan_inverse.ensures.read) (Undo d) (asks_back c.args.told.now d told) (has_place c.self.inside.pages.sizes d own))) own in
     few_back s d c.plan_inverse.result (subst (λ (s : State). IfOk c.plan_inverse.result (IsLawfulInverse s.sizes)) (state_is c.self.view_is) (c.plan_inverse.ensures.lawful c.requires.reads)) planned

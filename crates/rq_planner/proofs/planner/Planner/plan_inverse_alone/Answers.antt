@@ -9,11 +9,11 @@ use Rattle.rq_txn.specs.Rows.{Row}
 use Rattle.rq_planner.specs.Answered.{IsAnsweredBack, IsHeldUp, RefusesPlan}
 use Rattle.rq_planner.specs.Asked.{known, known_from}
 use Rattle.rq_planner.specs.Asked.Asked.{Undo}
-use Rattle.rq_planner.specs.Backs.{IsRefusedBack}
-use Rattle.rq_planner.specs.Lawful.{MayRefuse, unlatched_refusal}
+use Rattle.rq_planner.specs.Backs.{IsRefusedBack, MayRefuseBack}
+use Rattle.rq_planner.specs.Lawful.{unlatched_refusal}
 use Rattle.rq_planner.proofs.Asking.{asks_back}
-use Rattle.rq_planner.proofs.Backs.{can_below, not_held_up, refused_back, taken_back}
-use Rattle.rq_planner.proofs.Readings.{fails_alone, may_alone, reads_nothing, reads_passed, truly_done, truly_passed}
+use Rattle.rq_planner.proofs.Backs.{can_below, may_refuse_back, not_held_up, refused_back, taken_back}
+use Rattle.rq_planner.proofs.Readings.{fails_alone, reads_nothing, reads_passed, truly_done, truly_passed}
 use Rattle.rq_planner.proofs.planner.Planner.plan_inverse_alone.Goals as goal
 
 pub returns-then-not-reads_back-clause-read : goal.returns-then-not-reads_back-clause-read
@@ -47,7 +47,9 @@ returns-clause-read g c =
     subst (λ (e : Refusal). HasReadFor g.P.PageDevice c.args.pages.now (Err e) c.plan_inverse.new.pages) (sym c.refused_alone.ensures) (reads_passed g.P.PageDevice c.in-Err.refusal _ c.args.pages.now c.plan_inverse.new.pages (fails_alone g.P.PageDevice c.in-Err.refusal c.args.pages.now c.plan_inverse.new.pages) c.in-Err.ensures.read)
 
 pub returns-clause-causes : goal.returns-clause-causes
-returns-clause-causes g c = subst MayRefuse (sym c.refused_alone.ensures) (may_alone c.in-Err.refusal c.in-Err.ensures.causes)
+returns-clause-causes g c =
+    subst (MayRefuseBack (deed_back c.args.told.now)) (sym c.refused_alone.ensures)
+    (may_refuse_back (deed_back c.args.told.now) c.in-Err.refusal (sym c.reads_back.ensures.reads ∙ c.if-not-reads_back.false) c.in-Err.ensures.causes)
 
 pub returns-clause-refused : goal.returns-clause-refused
 returns-clause-refused g c truly =
