@@ -64,7 +64,8 @@ abbrev pub told_again : ℕ → Refusal → Refusal
 told_again lsn why.DiskRead = why.DiskRead
 told_again lsn _ = why.Damaged (damage.Record lsn)
 
--- a record was read at one of these places, the one with this LSN, and it is of the place's operation
+-- A record is taken for that of one of these places, the one with this LSN, and it is of the place's operation. Which of that
+-- operation's records it is, an honest device tells.
 pub record IsOwn (places : List Place) (lsn : ℕ) (told : Record) : Type 0 where
   pub place : Place
   pub among : In place places

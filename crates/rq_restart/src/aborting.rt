@@ -281,21 +281,24 @@ fn op_end(due: &PendingUndo) -> Record
     }
 }
 
-// The writes that take back what is due, over the slots as they are. Nobody has latched a page.
+// The writes that take back what is due, over the slots as they are. Nobody has latched a page. No page is read, as each stands
+// in a frame.
 fn plan<P: PageDevice, B: Level>(
     alloc: Global,
-    pages: &Pages<P>,
+    pages: &mut Pages<P>,
     planner: &mut Planner<B>,
     due: &PendingUndo,
 ) -> Result<Vec<SlotWrite>, Refusal>
-    requires { KnowsCells pages.now.sizes pages.now.images planner.old }
-    ensures cells { KnowsCells pages.now.sizes pages.now.images planner.new }
+    requires { KnowsCells pages.old.sizes pages.old.images planner.old }
+    ensures same { pages.new ≡ pages.old }
+    ensures cells { KnowsCells pages.old.sizes pages.old.images planner.new }
     ensures answered { IfOk result (λ writes.
-        IsPlannedAlone pages.now.sizes pages.now.images planner.old (end_due due.now) writes.items) }
-    ensures back { IfOk result (λ writes. IsTakingBack pages.now.sizes (slots_in pages.now.sizes pages.now.images)
+        IsPlannedAlone pages.old.sizes pages.old.images planner.old (end_due due.now) writes.items) }
+    ensures back { IfOk result (λ writes. IsTakingBack pages.old.sizes (slots_in pages.old.sizes pages.old.images)
         (deed_by due.now.level due.now.deed) writes.items) }
-    ensures stops { IfErr result (λ e. PlanStops pages.now.sizes pages.now.images due.now e) }
+    ensures stops { IfErr result (λ e. PlanStops pages.old.sizes pages.old.images due.now e) }
 {
+    pages.shows_framed();
     match planner.plan_inverse_alone(alloc, pages, &op_end(due)) {
         Ok(writes) => Ok(writes),
         Err(refusal) => Err(blamed(due.lsn, refusal)),

@@ -318,7 +318,7 @@ fn undo_all<P: PageDevice + Drop, L: LogDevice + Drop, B: Level>(
     let lost = analysis.open_work.active().len() as u64;
     let mut planner = Planner::new(alloc, levels);
     undo_unfinished(alloc, pages, log, analysis, &mut planner)?;
-    tell_cells(pages, &mut planner);
+    tell_cells(pages, &mut planner)?;
     abort_lost(alloc, pages, log, analysis, &mut planner)?;
     match check_links(alloc, pages) {
         Ok(()) => Ok((lost, planner)),

@@ -1,6 +1,6 @@
 //! What the slots of a store in which nothing is open tell: of each sender what waits and what it sent, of each client what
 //! it marked, and which cells are free.
-ghost use Rattle.std.specs.Prelude.{◌≡◌, ◌+◌, [], IfOk};
+ghost use Rattle.std.specs.Prelude.{◌≡◌, ◌+◌, [], IfOk, OnErr, OnOk};
 ghost use Rattle.rq_page.specs.Sizes.{client_count, sender_count};
 ghost use Rattle.rq_pool.specs.Pooled.{IsPool};
 ghost use Rattle.rq_store.specs.Opening.{sent_in_slots, waiting_in};
@@ -11,7 +11,7 @@ ghost use Rattle.rq_restart.specs.Tables.{AreSentTo, AreWaitingTo};
 use rq_disk::PageDevice;
 use rq_groups::{Ends, LastTag, Sent, Waiting};
 use rq_level::Level;
-use rq_model::refusal::NoMemory;
+use rq_model::refusal::{NoMemory, Refusal};
 use rq_planner::Planner;
 use rq_pool::Pages;
 use std::alloc::Global;
@@ -95,11 +95,21 @@ fn read_clients<P: PageDevice + Drop>(pages: &Pages<P>, senders: u32, clients: u
     }
 }
 
-/// Tells the levels of a planner, as they were handed in, each slot that they keep anything of.
-pub(crate) fn tell_cells<P: PageDevice + Drop, B: Level>(pages: &Pages<P>, planner: &mut Planner<B>)
+/// Tells the levels of a planner, as they were handed in, each slot that they keep anything of. No page is read, as each stands in
+/// a frame, so it is never refused.
+///
+/// # Errors
+/// None.
+pub(crate) fn tell_cells<P: PageDevice + Drop, B: Level>(
+    pages: &mut Pages<P>,
+    planner: &mut Planner<B>,
+) -> Result<(), Refusal>
     requires { AreForStores planner.old }
-    ensures { KnowsCells pages.now.sizes pages.now.images planner.new }
+    ensures same { pages.new ≡ pages.old }
+    ensures known { OnOk result (KnowsCells pages.old.sizes pages.old.images planner.new) }
+    ensures never { OnErr result ⊥ }
 {
     pages.shows_kept();
-    planner.tell(pages);
+    pages.shows_framed();
+    planner.tell(pages)
 }

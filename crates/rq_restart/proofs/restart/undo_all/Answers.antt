@@ -15,7 +15,7 @@ use Rattle.rq_restart.proofs.restart.undo_all.Goals as goal
 pub returns-in-Ok-clause-rolls_back : goal.returns-in-Ok-clause-rolls_back
 returns-in-Ok-clause-rolls_back g c = λ k.
     let undo = c.in_ok-undo_unfinished.ensures in
-    let abort = c.in_ok-abort_lost.ensures in
+    let abort = rw (c.tell_cells.ensures.same) at c.in_ok-abort_lost.ensures in
     let ku = abort.stays.read.honest k in
     subst (λ (p : Pooled _). IsRolledBackSince c.args.pages.now.sizes c.args.log.now.records c.abort_lost.new.log.records (paged c.args.pages.now) (paged p)) (sym c.check_links.ensures.same)
     (rolled_back_since c.args.pages.now.sizes c.args.log.now.records c.undo_unfinished.new.log.records c.abort_lost.new.log.records c.args.pages.now c.undo_unfinished.new.pages c.abort_lost.new.pages undo.stays.sizes (undo.undone ku) undo.pool (undo.repeated ku) (abort.gone_on k) abort.ended (λ e. (abort.none e).0))
@@ -23,23 +23,25 @@ returns-in-Ok-clause-rolls_back g c = λ k.
 pub returns-in-Ok-clause-counted : goal.returns-in-Ok-clause-counted
 returns-in-Ok-clause-counted g c = λ before.
     let undo = c.in_ok-undo_unfinished.ensures in
-    let abort = c.in_ok-abort_lost.ensures in
+    let abort = rw (c.tell_cells.ensures.same) at c.in_ok-abort_lost.ensures in
     subst (λ (p : Pooled _). ArePagesCounted c.args.pages.now.sizes (length c.abort_lost.new.log.records) (paged p)) (sym c.check_links.ensures.same)
     (subst (λ y. ArePagesCounted y (length c.abort_lost.new.log.records) (paged c.abort_lost.new.pages)) undo.stays.sizes
     (abort.counted (subst (λ y. ArePagesCounted y (length c.undo_unfinished.new.log.records) (paged c.undo_unfinished.new.pages)) (sym undo.stays.sizes) (undo.counted before))))
 
 pub returns-in-Ok-clause-linked : goal.returns-in-Ok-clause-linked
 returns-in-Ok-clause-linked g c =
+    let abort = rw (c.tell_cells.ensures.same) at c.in_ok-abort_lost.ensures in
     subst (λ (p : Pooled _). AreLinked c.args.pages.now.sizes (slots_on c.args.pages.now.sizes (paged p))) (sym c.check_links.ensures.same)
-    (subst (λ y. AreLinked y (slots_on y (paged c.abort_lost.new.pages))) (c.in_ok-abort_lost.ensures.stays.sizes ∙ c.in_ok-undo_unfinished.ensures.stays.sizes) c.in-Ok.ensures.linked)
+    (subst (λ y. AreLinked y (slots_on y (paged c.abort_lost.new.pages))) (abort.stays.sizes ∙ c.in_ok-undo_unfinished.ensures.stays.sizes) c.in-Ok.ensures.linked)
 
 pub returns-in-Ok-clause-known : goal.returns-in-Ok-clause-known
 returns-in-Ok-clause-known g c = subst (λ (p : Pooled _). KnowsCells p.sizes p.images c.abort_lost.new.planner) (sym c.check_links.ensures.same) c.in_ok-abort_lost.ensures.cells
 
 pub returns-in-Ok-clause-stays : goal.returns-in-Ok-clause-stays
 returns-in-Ok-clause-stays g c =
+    let abort = rw (c.tell_cells.ensures.same) at c.in_ok-abort_lost.ensures in
     subst (λ (p : Pooled _). HandsOverNothing g.L.LogDevice c.args.pages.now p c.args.log.now c.abort_lost.new.log) (sym c.check_links.ensures.same)
-    (and_then c.in_ok-undo_unfinished.ensures.stays c.in_ok-abort_lost.ensures.stays)
+    (and_then c.in_ok-undo_unfinished.ensures.stays abort.stays)
 
 pub returns-in-Ok-clause-lost : goal.returns-in-Ok-clause-lost
 returns-in-Ok-clause-lost g c = ap length c.active.ensures
@@ -61,18 +63,19 @@ returns-in_err-abort_lost-clause-stops g c =
     let mid = c.undo_unfinished.new.pages in
     let e = c.in_err-abort_lost.field-0.0 in
     let pool : IsPool z mid.images = subst (λ y. IsPool y mid.images) undo.stays.sizes undo.pool in
-    let read = c.abort_lost.ensures.stays.read in
+    let stays = rw (c.tell_cells.ensures.same) at c.abort_lost.ensures.stays in
+    let read = stays.read in
     let h : g.L.LogDevice.honest c.abort_lost.new.log.device → (first : Paged) → Repeats z log first (paged c.args.pages.now) → RollbackStops z log first e =
     λ k first before.
     let ku = read.honest k in
-    let stops : AbortingStops z undone mid e = subst (λ y. AbortingStops y undone mid e) undo.stays.sizes (c.in_err-abort_lost.ensures.stops k) in
+    let stops : AbortingStops z undone mid e = subst (λ y. AbortingStops y undone mid e) undo.stays.sizes (let stopped = rw (c.tell_cells.ensures.same) at c.in_err-abort_lost.ensures.stops in stopped k) in
     abort_rolls_nothing_back z log undone mid (undo.undone ku) pool c.in_err-abort_lost.ensures.some first (undo.repeated ku first before) e stops in
     search (rules, h)
 
 pub returns-in-Err-clause-stops : goal.returns-in-Err-clause-stops
 returns-in-Err-clause-stops g c =
     let undo = c.in_ok-undo_unfinished.ensures in
-    let abort = c.in_ok-abort_lost.ensures in
+    let abort = rw (c.tell_cells.ensures.same) at c.in_ok-abort_lost.ensures in
     let z = c.args.pages.now.sizes in
     let log = c.args.log.now.records in
     let old = c.args.pages.now in
@@ -99,5 +102,6 @@ returns-in-Err-clause-fails g c =
 
 pub returns-in-Err-clause-stays : goal.returns-in-Err-clause-stays
 returns-in-Err-clause-stays g c =
+    let abort = rw (c.tell_cells.ensures.same) at c.in_ok-abort_lost.ensures in
     subst (λ (p : Pooled _). HandsOverNothing g.L.LogDevice c.args.pages.now p c.args.log.now c.abort_lost.new.log) (sym c.check_links.ensures.same)
-    (and_then c.in_ok-undo_unfinished.ensures.stays c.in_ok-abort_lost.ensures.stays)
+    (and_then c.in_ok-undo_unfinished.ensures.stays abort.stays)
