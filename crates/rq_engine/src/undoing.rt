@@ -128,12 +128,6 @@ impl<P: PageDevice, L: LogDevice, B: Level> Engine<P, L, B> {
     {
         self.pages.shows_framed();
         let room = self.transactions.spare();
-        self.planner.plan_inverse(
-            self.alloc,
-            room,
-            &mut self.pages,
-            &self.transactions,
-            told,
-        )
+        self.planner.plan_inverse(self.alloc, room, &mut self.pages, &self.transactions, told)
     }
 }
