@@ -9,11 +9,11 @@ use Rattle.rq_page.specs.Sizes.{Sizes, page_count}
 use Rattle.rq_pool.specs.Pooled.{Pooled}
 use Rattle.rq_pool.specs.Fetching.{AreAllFramed, Fetches, HasReadFor, IsReadAsStored, MayHaveRead, ReadsTruly}
 use Rattle.rq_pool.proofs.Fetched.{stored_after}
-use Rattle.rq_chain_check.specs.Stops.{ChecksNot}
+use Rattle.rq_chain_check.specs.Stops.{ChecksNot, IsNotRead}
 
 module _ {P : Type 0} (g : Ghosts P) where
   -- a page was not read
-  pub unread : {X : Type 0} (page : ℕ) (e : Refusal) (old new : Pooled P) → 1 ≤ page → page < page_count old.sizes → Fetches {X = X} g page old (Err e) new → ChecksNot g old e new
+  pub unread : {X : Type 0} (page : ℕ) (e : Refusal) (old new : Pooled P) → 1 ≤ page → page < page_count old.sizes → Fetches {X = X} g page old (Err e) new → IsNotRead g old e new
   unread page why.DiskRead old new low high f = tt
   unread page (why.Damaged (damage.Page n)) old new low high f = (subst (λ (q : ℕ). q < page_count old.sizes) (sym f.refused.0) high, lied) where
     lied : IsReadAsStored g old new → ⊥
@@ -22,8 +22,7 @@ module _ {P : Type 0} (g : Ghosts P) where
   unread page _ old new low high f = absurd f.refused
 
   -- some pages were read, and then one was not
-  pub unread_later : (e : Refusal) (old mid new : Pooled P) → MayHaveRead g old mid → ChecksNot g mid e new → ChecksNot g old e new
-  unread_later why.NoMemory old mid new read not = tt
+  pub unread_later : (e : Refusal) (old mid new : Pooled P) → MayHaveRead g old mid → IsNotRead g mid e new → IsNotRead g old e new
   unread_later why.DiskRead old mid new read not = tt
   unread_later (why.Damaged (damage.Page n)) old mid new read not =
       (subst (λ (z : Sizes). n < page_count z) (read.kept 0).sizes not.0, λ stored. not.1 (stored_after g old mid new read stored))

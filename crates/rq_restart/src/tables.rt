@@ -97,9 +97,6 @@ fn read_clients<P: PageDevice + Drop>(pages: &Pages<P>, senders: u32, clients: u
 
 /// Tells the levels of a planner, as they were handed in, each slot that they keep anything of. No page is read, as each stands in
 /// a frame, so it is never refused.
-///
-/// # Errors
-/// None.
 pub(crate) fn tell_cells<P: PageDevice + Drop, B: Level>(
     pages: &mut Pages<P>,
     planner: &mut Planner<B>,

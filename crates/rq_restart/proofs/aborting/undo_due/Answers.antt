@@ -71,7 +71,7 @@ returns-in_err-make_all-clause-stops g c =
     let begun = begin_shown z log old c.args.analysis.now c.requires.found d first.0 first.1 c.requires.none ws n back number in
     let planned : IsPlannedOn z (RepeatedSince z log (paged old) log) d ws = planned_here z log (paged old) d ws back in
     let next : IsTakenNext log d n = taken_next z log old c.args.analysis.now c.requires.found d first.0 first.1 c.requires.none n number in
-    stops_before z (IsMaking d.txn n ws log) (IsAbortingFrom z log old) log old (IsShown log old) (IsShownWithin log old d n ws 0) refusal (λ l. making_aborts z (RepeatedSince z log (paged old)) log l d n ws next planned) begun (let stops = rw (c.plan-writes.ensures.same) at c.in_err-make_all.ensures.stops in stops k) in
+    stops_before z (IsMaking d.txn n ws log) (IsAbortingFrom z log old) log old (IsShown log old) (IsShownWithin log old d n ws 0) refusal (λ l. making_aborts z (RepeatedSince z log (paged old)) log l d n ws next planned) begun (let stops = rw (c.plan.ensures.same) at c.in_err-make_all.ensures.stops in stops k) in
     search (rules, h)
 
 pub append-requires-clause-range : goal.append-requires-clause-range
@@ -103,7 +103,7 @@ returns-in_err-append-clause-stops g c =
     let ws = c.deref.result.now in
     let due = c.requires.first in
     let last_device = c.append.ensures.device in
-    let made = rw (c.plan-writes.ensures.same) at c.in_ok-make_all.ensures in
+    let made = rw (c.plan.ensures.same) at c.in_ok-make_all.ensures in
     let mid = c.make_all.new.log.records in
     let pages = c.make_all.new.pages in
     let r : Record = comp_end d.txn n d.lsn in
@@ -133,7 +133,7 @@ returns-clause-gone_on g c = λ k.
     let n = c.in-Some.operation in
     let ws = c.deref.result.now in
     let due = c.requires.first in
-    let made = rw (c.plan-writes.ensures.same) at c.in_ok-make_all.ensures in
+    let made = rw (c.plan.ensures.same) at c.in_ok-make_all.ensures in
     let there = subst g.L.LogDevice.honest c.in_ok-append.ensures.device k in
     let gone_on = made.gone_on there in
     let first = as_told c.args.analysis.now.dues due.0 d due.1 due.2 (due.5 (subst g.L.LogDevice.honest made.device there)) in
@@ -161,7 +161,7 @@ returns-clause-gone_on g c = λ k.
 pub returns-clause-rest : goal.returns-clause-rest
 returns-clause-rest g c =
     let due = c.requires.first in
-    let made = rw (c.plan-writes.ensures.same) at c.in_ok-make_all.ensures in
+    let made = rw (c.plan.ensures.same) at c.in_ok-make_all.ensures in
     let d = c.args.due.now in
     let n = c.in-Some.operation in
     let mid = c.make_all.new.log.records in
@@ -173,7 +173,7 @@ returns-clause-rest g c =
 pub returns-clause-lost : goal.returns-clause-lost
 returns-clause-lost g c = λ k.
     let due = c.requires.first in
-    let made = rw (c.plan-writes.ensures.same) at c.in_ok-make_all.ensures in
+    let made = rw (c.plan.ensures.same) at c.in_ok-make_all.ensures in
     let d = c.args.due.now in
     let first = as_told c.args.analysis.now.dues due.0 d due.1 due.2 (due.5 (subst g.L.LogDevice.honest made.device (subst g.L.LogDevice.honest c.in_ok-append.ensures.device k))) in
     let mid = c.make_all.new.log.records in
@@ -184,7 +184,7 @@ returns-clause-lost g c = λ k.
 pub returns-clause-active : goal.returns-clause-active
 returns-clause-active g c =
     let due = c.requires.first in
-    let made = rw (c.plan-writes.ensures.same) at c.in_ok-make_all.ensures in
+    let made = rw (c.plan.ensures.same) at c.in_ok-make_all.ensures in
     let d = c.args.due.now in
     let n = c.in-Some.operation in
     let mid = c.make_all.new.log.records in
