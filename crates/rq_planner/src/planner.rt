@@ -97,12 +97,12 @@ impl<B: Level> Planner<B> {
     }
 
     /// The plan of an operation by its level, from the slots as they are. Its writes are put into `room`. What it chose is
-    /// given back. What a plan tells was asked for, whatever the device gave.
+    /// given back. Whatever the device gave, a plan tells what was asked for, and writes on pages that nobody has latched.
     ///
     /// # Errors
     /// `Latched` where it needs a page that an operation under way has latched, or a cell of which none is free on another
-    /// page, and only there; `NoMemory`; of a store that is not sound, where the operation may not be done, or where the device
-    /// has lied, also `Damaged`; `DiskRead`.
+    /// page, and only there; of a close or a mark so whatever the device gave; `NoMemory`; of a store that is not sound, where
+    /// the operation may not be done, or where the device has lied, also `Damaged`; `DiskRead`.
     pub fn plan<P: PageDevice>(
         &mut self,
         room: Vec<SlotWrite>,

@@ -7,6 +7,9 @@ use Rattle.rq_planner.proofs.Latches.{unread_unlatched}
 use Rattle.rq_planner.proofs.Readings.{may_be_unread}
 use Rattle.rq_planner.proofs.gathering.give.Goals as goal
 
+pub returns-then-has_latched-clause-latch : goal.returns-then-has_latched-clause-latch
+returns-then-has_latched-clause-latch g c = ap (latched_in c.args.transactions.now) (sym c.page.ensures) ∙ sym c.has_latched.ensures ∙ c.if-has_latched.true
+
 pub slot_at_hand-requires-clause-place : goal.slot_at_hand-requires-clause-place
 slot_at_hand-requires-clause-place g c = subst (λ (z : Sizes). IsStoreSlot z c.args.at) (sym (c.look_at.ensures.read.read.kept 0).sizes) (c.in-Ok-true.ensures.known.0 c.in-Ok-true.field-0-test)
 
