@@ -5,6 +5,7 @@ use Rattle.std.proofs.lemmas.List.Elements.{All-append, All-cons, All-nil, recur
 use Rattle.std.specs.List.{AllByRecursion}
 use Rattle.rq_model.specs.declared.record.Record.{Record}
 use Rattle.rq_model.specs.declared.record.Record.TheVariants.{OpEnd}
+use Rattle.rq_model.specs.declared.refusal.Damage.TheVariants as damage
 use Rattle.rq_model.specs.declared.refusal.Refusal.{Refusal}
 use Rattle.rq_model.specs.declared.refusal.Refusal.TheVariants as why
 use Rattle.rq_model.specs.Deeds.{deed_by}
@@ -52,7 +53,7 @@ freely_more rows z images levels n a given now knows lt h m off =
 -- a page that was not read is refused as no latch
 pub unread_unlatched : {P : Type 0} (g : Ghosts P) (old new : Pooled P) (latched : Bool) (e : Refusal) → IsUnread g old e new → latched ≡ false → IsForLatch latched e
 unread_unlatched g old new latched why.DiskRead is off = off
-unread_unlatched g old new latched (why.Damaged x) is off = off
+unread_unlatched g old new latched (why.Damaged (damage.Page n)) is off = off
 unread_unlatched g old new latched _ is off = absurd is
 
 -- what was given is of a page that nobody has latched
