@@ -1,5 +1,6 @@
 pub mod Pooled
 pub mod Held
+pub mod Places
 pub mod Frames
 pub mod Indexed
 pub mod Reading
@@ -7,3 +8,4 @@ pub mod Writing
 pub mod KeptUp
 pub mod Fetching
 pub mod Want
+pub mod Fixing
