@@ -101,6 +101,11 @@ pub record MayUndo (s : State) (m : Meaning) (k : LevelState) (told : Record) (g
 abbrev pub level_back : Record → ℕ
 level_back told = (job_back told).level
 
+-- The answer to something to do is one of its level.
+abbrev pub IsAnsweredFor : State → List LevelState → Job → Result Plan Refusal → Type 0
+IsAnsweredFor s levels job answer = IsAnswered s (wants_of levels job.level) job
+    (MayPlan s (meaning_of job.level) (kept_at levels job.level) job) answer
+
 -- The answer to what takes a record back is one of its level.
 abbrev pub IsAnsweredBack : State → List LevelState → Record → Result Plan Refusal → Type 0
 IsAnsweredBack s levels told answer = IsAnswered s (wants_of levels (level_back told)) (job_back told)
