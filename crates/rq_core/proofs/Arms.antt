@@ -1,9 +1,11 @@
 -- Each function of a world, over the devices in memory.
-use Rattle.rq_model.specs.Causes.{HasCause, writes_out}
-use Rattle.std.proofs.Common.{◌↔◌, Bool, false, ◌≡◌, List, [], ◌∷◌, arith, refl, sym, ◌∙◌, ap, subst, true, Some, Result, Ok, Err, IfErr, ⊎_elim}
+use Rattle.rq_model.specs.Causes.{HasCause, calls_device, reads_pages, starts_one, writes_out}
+use Rattle.std.proofs.lemmas.Bool.{or_right}
+use Rattle.std.proofs.Common.{◌||◌, ◌↔◌, Bool, false, ◌≡◌, List, [], ◌∷◌, arith, refl, sym, ◌∙◌, ap, subst, true, Some, Result, Ok, Err, IfErr, ⊎_elim}
 use Rattle.rq_model.specs.declared.refusal.Refusal.{Refusal}
 use Rattle.rq_model.specs.declared.refusal.Refusal.TheVariants as why
 use Rattle.rq_model.specs.History.{Entry, Call}
+use Rattle.rq_model.specs.History.Call.{Show}
 use Rattle.rq_model.specs.History.Entry.{Restarted as Restarted_entry, Refused as Refused_entry}
 use Rattle.rq_model.specs.Ledger.{Ledger, Phase, ledger, runs}
 use Rattle.rq_model.specs.Ledger.Phase.{Running as Runs, Shut}
@@ -151,10 +153,18 @@ begins z pages log fresh = record {
 }
 
 -- a stop in a call, which a device refused
-stop_writes : (r : Refusal) (b : Bool) (c : Call) → is_of_device r ≡ true → HasCause b c r → writes_out c ≡ true
-stop_writes why.DiskWrite b c d h = h
-stop_writes why.DiskRead b c d h = absurd h
-stop_writes _ b c d h = cc d
+starts_reads : (c : Call) → starts_one c ≡ true → reads_pages c ≡ true
+starts_reads Show e = refl
+starts_reads c e = e
+
+or_more : (w x y : Bool) → (x ≡ true → y ≡ true) → (w || x) ≡ true → (w || y) ≡ true
+or_more true x y more e = refl
+or_more false x y more e = more e
+
+stop_asks : (r : Refusal) (b : Bool) (c : Call) → is_of_device r ≡ true → HasCause b c r → calls_device c ≡ true
+stop_asks why.DiskWrite b c d h = or_more (writes_out c) (starts_one c) (reads_pages c) (starts_reads c) h
+stop_asks why.DiskRead b c d h = or_right (writes_out c) (reads_pages c) h
+stop_asks _ b c d h = cc d
 
 stop_runs : (r : Refusal) (failed : Bool) → is_of_device r ≡ true → ((reply.Refused r ≡ reply.Refused why.Failed) ↔ (failed ≡ true)) → phase_of failed ≡ Runs
 stop_runs r false d e = refl
@@ -168,5 +178,5 @@ pub stop_may : (z : Sizes) (course : Course) (e : Event) (r : Refusal) (old new 
 stop_may z course e r old new ran a device =
     let o : IsOpen mem_pages mem_log z ran.history old = ran.stands in (
       ap (λ (l : Ledger). l.phase) (sym o.ledger) ∙ stop_runs r old.state.failed device a.failed,
-      stop_writes r (any_busy (ledger_of (on o.past old.state)).open_ones) (call_of e) device (caused e (reply.Refused r) (on o.past old.state) (a.cause (tt, tt) o.past o.long o.sound)),
+      stop_asks r (any_busy (ledger_of (on o.past old.state)).open_ones) (call_of e) device (caused e (reply.Refused r) (on o.past old.state) (a.cause (tt, tt) o.past o.long o.sound)),
     )

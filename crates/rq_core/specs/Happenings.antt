@@ -12,7 +12,7 @@ use Rattle.rq_model.specs.Ledger.{Phase, ledger}
 use Rattle.rq_model.specs.Ledger.Phase.{Running as Runs, Shut}
 use Rattle.rq_model.specs.Replay.{Reply, Says}
 use Rattle.rq_model.specs.Promises.{crash_with}
-use Rattle.rq_model.specs.Causes.{IsCaused, writes_out}
+use Rattle.rq_model.specs.Causes.{IsCaused, calls_device}
 use Rattle.rq_model.specs.Replay.Reply.{Gave_commit}
 use Rattle.rq_model.specs.Tests.{any_busy}
 
@@ -100,10 +100,10 @@ DoesNothing course (Acknowledges n) = makes_no_call (acknowledging (nth n (answe
 DoesNothing course Fails = Unit {0}
 DoesNothing course _ = ⊥
 
--- It may crash a store in this phase. A call meets a crash only where it writes to a device, of a store that runs.
+-- It may crash a store in this phase. A call meets a crash only where it may ask something of a device, of a store that runs.
 abbrev pub MayCrashIt : Happening → Phase → Type 0
 MayCrashIt Crashes phase = Unit {0}
-MayCrashIt (Stops_in call) phase = (phase ≡ Runs) × (writes_out call ≡ true)
+MayCrashIt (Stops_in call) phase = (phase ≡ Runs) × (calls_device call ≡ true)
 MayCrashIt Stops_restart phase = phase ≡ Shut
 MayCrashIt _ phase = ⊥
 

@@ -52,9 +52,9 @@ Why z l c r = (first_of (tests z l c) ≡ Some r) ⊎ ((r ≡ why.Latched) × Pa
 legal_why : (busy : Bool) (z : Size) (l : Ledger) (c : Call) (r : Refusal) → writes_out c ≡ false → LegalRefusal z l c r → HasCause busy c r → Why z l c r
 legal_why busy z l c why.NoMemory w g h = inr (inr tt)
 legal_why busy z l c why.DiskWrite w g h = inr (inr tt)
-legal_why busy z l c why.DiskRead w g h = absurd h
+legal_why busy z l c why.DiskRead w g h = inr (inr tt)
 legal_why busy z l c (why.Damaged d) w g h = absurd h
-legal_why busy z l c why.PoolFull w g h = absurd h
+legal_why busy z l c why.PoolFull w g h = inr (inr tt)
 legal_why busy z l c why.NotForced w g h = absurd (true≢false (sym h ∙ w))
 legal_why busy z l c why.Latched w g h = inr (inl (refl, g.0))
 legal_why busy z l c _ w g h = inl g

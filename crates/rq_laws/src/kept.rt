@@ -1,6 +1,6 @@
 //! The kept engine: two in the same state that are given the same call.
 ghost use Rattle.std.specs.Prelude.{◌≡◌, ◌≢◌, false};
-ghost use Rattle.rq_engine.specs.KeptUp.{reads_pages};
+ghost use Rattle.rq_model.specs.Causes.{reads_pages};
 ghost use Rattle.rq_engine.specs.Says.{call_of};
 ghost use Rattle.rq_laws.specs.Alike.{LeftAlike};
 

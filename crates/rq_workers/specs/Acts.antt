@@ -9,7 +9,7 @@ use Rattle.rq_workers.specs.declared.acts.Act.TheVariants.{Asked, Lacked, Made, 
 use Rattle.rq_workers.specs.declared.acts.Heard.{Heard}
 use Rattle.rq_model.specs.History.{Call}
 use Rattle.rq_model.specs.History.Call.{Step, Finish, Write_page, Checkpoint}
-use Rattle.rq_engine.specs.KeptUp.{starts_one}
+use Rattle.rq_model.specs.Causes.{starts_one}
 use Rattle.rq_engine.specs.Says.{call_of}
 use Rattle.rq_workers.specs.Hearing.{heard_of}
 use Rattle.rq_workers.specs.Forcing.{most_forced}

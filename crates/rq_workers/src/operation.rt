@@ -2,7 +2,7 @@
 ghost use Rattle.std.specs.Prelude.{◌≡◌, true, false};
 ghost use Rattle.rq_engine.specs.Says.{call_of};
 ghost use Rattle.rq_model.specs.History.{Call};
-ghost use Rattle.rq_engine.specs.KeptUp.{starts_one};
+ghost use Rattle.rq_model.specs.Causes.{starts_one};
 ghost use Rattle.rq_workers.specs.Hearing.{may_try_again, wants_memory, operation_of, turn_of};
 ghost use Rattle.rq_workers.specs.Operations.{Carries, GoesThrough, IsTried, once_answered, started_stage, stepped_stage};
 ghost use Rattle.rq_workers.specs.Operations.Stage.{Starting, Due, Over};

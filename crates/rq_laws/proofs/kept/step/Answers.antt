@@ -1,6 +1,6 @@
 use Rattle.std.proofs.Common.{◌∙◌, ap, sym}
 use Rattle.rq_engine.proofs.KeptUp.{up_state}
-use Rattle.rq_engine.specs.KeptUp.{reads_pages}
+use Rattle.rq_model.specs.Causes.{reads_pages}
 use Rattle.rq_engine.specs.Says.{call_of}
 use Rattle.rq_engine.specs.declared.event.Event.{Event}
 use Rattle.rq_shared.specs.Entries.{Audited}
