@@ -47,6 +47,7 @@ module _ (pages : MemPages) (old new : MemLog) (p : AreNewPages pages formatted_
     steps = λ h earlier long k. running.force;
     cause = λ h earlier long k. tt;
     latched = λ earlier long k. tt;
+    frames = tt;
     sizes = refl;
     unknown = refl;
     replacing = refl;

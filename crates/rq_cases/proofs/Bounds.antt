@@ -292,6 +292,7 @@ module _ (n : ℕ) where
           steps = λ honest earlier long k. committed_over earlier (λ a b. IsModelStep a (Commit t) (Gave_commit (commit_number number)) b) steps;
           cause = λ honest earlier long k. tt;
           latched = λ earlier long k. tt;
+          frames = tt;
           sizes = refl;
           unknown = refl;
           replacing = refl;
@@ -328,6 +329,7 @@ module _ (n : ℕ) where
               begun_over earlier (λ a. IsModelStep a (Commit t) (Gave_refusal why.LogFull) a) (refuse_full s t ready (commit_full le) (begun_sound n)).0;
           cause = λ honest earlier long k. tt;
           latched = λ earlier long k. tt;
+          frames = tt;
           sizes = refl;
           unknown = refl;
           replacing = refl;

@@ -3,9 +3,9 @@ use Rattle.std.proofs.Common.{rules, ◌≡◌, ℕ, zero, suc, ◌<◌, ◌≤�
 use Rattle.std.proofs.lemmas.Bool.Decides.{nat_tests}
 use Rattle.std.proofs.lemmas.Bool.{ltb-true, and_parts}
 use Rattle.rq_model.specs.declared.txn.Txn.{Txn}
-use Rattle.rq_model.specs.declared.refusal.Refusal.TheVariants.{DiskWrite, NoMemory}
+use Rattle.rq_model.specs.declared.refusal.Refusal.TheVariants.{DiskRead, DiskWrite, NoMemory, PoolFull}
 use Rattle.rq_model.specs.History.{Entry, rest}
-use Rattle.rq_model.specs.History.Call.{Begin, Commit, Force, Show, Write_page}
+use Rattle.rq_model.specs.History.Call.{Begin, Commit, Force, Show, Start_send, Write_page}
 use Rattle.rq_model.specs.History.Entry.{Begun, Forced, Refused}
 use Rattle.rq_model.specs.Groups.{group}
 use Rattle.rq_model.specs.Ledger.{Open, found, group_in, ledger, own_takes, rest_in}
@@ -14,7 +14,7 @@ use Rattle.rq_model.specs.Tests.{Size, free_to_receive, gives, holds_for}
 use Rattle.rq_model.specs.Worked.{txn}
 use Rattle.rq_core.specs.Always.{GivesTo}
 use Rattle.rq_core.specs.Happenings.{Tells}
-use Rattle.rq_core.specs.Worked.{first_entries}
+use Rattle.rq_core.specs.Worked.{first_entries, hello}
 use Rattle.rq_cases.specs.Courses.{CausesAreJudged, FindsNothing, NoneIsJudged, StopsAreJudged, opened, opened_history, took}
 
 told_opened : Tells opened opened_history
@@ -25,6 +25,8 @@ stops = record {
   in_a_force = (opened_history, told_opened, ((refl, refl), None, tt, refl));
   in_a_hand_over = (opened_history, told_opened, ((refl, refl), None, tt, refl));
   in_a_page_write = (opened_history, told_opened, ((refl, refl), None, tt, refl));
+  in_a_send = (opened_history, told_opened, ((refl, refl), None, tt, refl));
+  in_a_content = (opened_history, told_opened, ((refl, refl), None, tt, refl));
   in_a_begin = λ h t. cc t.2.0.1;
   in_a_commit = λ h t. cc t.2.0.1;
   in_a_step = λ h t. cc t.2.0.1;
@@ -51,8 +53,15 @@ causes = record {
   disk_of_a_force = (opened_history, told_opened, (Refused Force DiskWrite, refl, refl, refl));
   disk_of_a_page_write = (opened_history, told_opened, (Refused (Write_page 1) DiskWrite, refl, refl, refl));
   disk_of_a_commit = λ h t. cc t.2.2;
-  read_at_all = λ call h t. t.2.2;
-  frames_at_all = λ call h t. t.2.2;
+  disk_of_a_send = (opened_history, told_opened, (Refused (Start_send (txn 1 1) hello) DiskWrite, refl, refl, refl));
+  read_of_a_send = (opened_history, told_opened, (Refused (Start_send (txn 1 1) hello) DiskRead, refl, refl, refl));
+  read_of_a_content = (opened_history, told_opened, (Refused Show DiskRead, refl, refl, refl));
+  read_of_a_commit = λ h t. cc t.2.2;
+  read_of_a_page_write = λ h t. cc t.2.2;
+  frames_of_a_send = (opened_history, told_opened, (Refused (Start_send (txn 1 1) hello) PoolFull, refl, refl, refl));
+  frames_of_a_content = λ h t. cc t.2.2;
+  frames_of_a_commit = λ h t. cc t.2.2;
+  damage_at_all = λ call d h t. t.2.2;
   latched_by_another = refl;
   latched_by_another_legally = search rules;
   latched_by_nobody = λ e. cc e;

@@ -15,7 +15,7 @@ use Rattle.rq_pool.specs.Writing.{DeviceAfter}
 use Rattle.rq_sound.specs.Sound.{IsSound}
 use Rattle.rq_engine.specs.Applied.{Applied}
 use Rattle.rq_engine.specs.Crash.{AreFit}
-use Rattle.rq_engine.specs.KeptUp.{reads_pages}
+use Rattle.rq_model.specs.Causes.{reads_pages}
 use Rattle.rq_engine.specs.Says.{PagesSay, call_of}
 use Rattle.rq_engine.specs.Opened.{AreHonest, OpenStore}
 use Rattle.rq_engine.specs.declared.event.Event.{Event}

@@ -2,8 +2,9 @@
 use Rattle.std.specs.Prelude.{ℕ, List, [], ◌∷◌}
 use Rattle.rq_model.specs.declared.message.Message.{Message}
 use Rattle.rq_model.specs.declared.txn.Txn.{Txn}
+use Rattle.rq_model.specs.declared.refusal.Damage.{Damage}
 use Rattle.rq_model.specs.declared.refusal.Refusal.{Refusal}
-use Rattle.rq_model.specs.declared.refusal.Refusal.TheVariants.{DiskRead, DiskWrite, Latched, NoMemory, PoolFull}
+use Rattle.rq_model.specs.declared.refusal.Refusal.TheVariants.{Damaged, DiskRead, DiskWrite, Latched, NoMemory, PoolFull}
 use Rattle.rq_model.specs.History.{Call, Entry}
 use Rattle.rq_model.specs.History.Call.{Acknowledge, Begin, Commit, Finish, Force, Hand_over, Show, Start_receive_from, Start_send, Step, Write_page}
 use Rattle.rq_model.specs.History.Entry.{Begun, Crash as Crash_entry, Did, Forced, None_free, None_from, Refused, Restarted as Restarted_entry, Started, Stepped}
@@ -37,11 +38,13 @@ failed = (Asks Force, Answered (Gave_refusal DiskWrite)) ∷ opened
 abbrev pub StopsWith : Call → ℕ → Type 0
 StopsWith call records = Tells ((Stops_in call, Crashed records) ∷ opened) (Crash_entry 0 records ∷ opened_history)
 
--- a crash at a device call inside a call: only a call that writes has one, and only where the store runs
+-- a crash at a device call inside a call: only a call that may ask something of a device has one, and only where the store runs
 pub record StopsAreJudged : Type 0 where
   pub in_a_force : StopsWith Force 1
   pub in_a_hand_over : StopsWith Hand_over 1
   pub in_a_page_write : StopsWith (Write_page 1) 1
+  pub in_a_send : StopsWith (Start_send (txn 1 1) hello) 1
+  pub in_a_content : StopsWith Show 1
   pub in_a_begin : TellsNothing opened (Stops_in Begin) (Crashed 1)
   pub in_a_commit : TellsNothing opened (Stops_in (Commit (txn 1 1))) (Crashed 1)
   pub in_a_step : TellsNothing opened (Stops_in (Step (txn 1 1) 1)) (Crashed 1)
@@ -82,8 +85,15 @@ pub record CausesAreJudged : Type 0 where
   pub disk_of_a_force : RefusedBy Force DiskWrite
   pub disk_of_a_page_write : RefusedBy (Write_page 1) DiskWrite
   pub disk_of_a_commit : NotRefusedBy (Commit (txn 1 1)) DiskWrite
-  pub read_at_all : (call : Call) → NotRefusedBy call DiskRead
-  pub frames_at_all : (call : Call) → NotRefusedBy call PoolFull
+  pub disk_of_a_send : RefusedBy (Start_send (txn 1 1) hello) DiskWrite
+  pub read_of_a_send : RefusedBy (Start_send (txn 1 1) hello) DiskRead
+  pub read_of_a_content : RefusedBy Show DiskRead
+  pub read_of_a_commit : NotRefusedBy (Commit (txn 1 1)) DiskRead
+  pub read_of_a_page_write : NotRefusedBy (Write_page 1) DiskRead
+  pub frames_of_a_send : RefusedBy (Start_send (txn 1 1) hello) PoolFull
+  pub frames_of_a_content : NotRefusedBy Show PoolFull
+  pub frames_of_a_commit : NotRefusedBy (Commit (txn 1 1)) PoolFull
+  pub damage_at_all : (call : Call) (d : Damage) → NotRefusedBy call (Damaged d)
   pub latched_by_another : HasCause (any_busy (ledger two_begun).open_ones) (Start_send (txn 1 2) other) Latched
   pub latched_by_another_legally : IsLegal small (Refused (Start_send (txn 1 2) other) Latched ∷ two_begun)
   pub latched_by_nobody : HasCause (any_busy (ledger (first_entries 2)).open_ones) (Start_send (txn 1 1) hello) Latched

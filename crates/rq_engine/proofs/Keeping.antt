@@ -162,7 +162,7 @@ module _ (s : State) (f : Bool) (o res : ℕ) (k : IsConsistent s f o res) (t : 
         room = (let w = k.room in omega (arith, b, d, v, w, fits, more));
         count = (let w = k.count in omega (arith, same, w));
         distinct = distinct_change t row_stepped s.rows (λ q. refl) k.distinct;
-        rows = changed_rows row_stepped (length (x ∷ s.records) + owed_by (change_row t row_stepped s.rows)) (λ q. refl) (omega (arith, same)) (record { mine = row.mine; low = row.low; high = row.high; number = (let n = row.number in omega (arith, n, same)); done = row.done; under = subst (λ (y : Option Under). UnderConsistent s.sizes (under_stepped y)) (sym under) (record { number = h.number; made = omega (arith, more); slots = h.slots; sender = h.sender; fits = h.fits }) });
+        rows = changed_rows row_stepped (length (x ∷ s.records) + owed_by (change_row t row_stepped s.rows)) (λ q. refl) (omega (arith, same)) (record { mine = row.mine; low = row.low; high = row.high; number = (let n = row.number in omega (arith, n, same)); done = row.done; under = subst (λ (y : Option Under). UnderConsistent s.sizes (under_stepped y)) (sym under) (record { number = h.number; made = omega (arith, more); few = h.few; slots = h.slots; sender = h.sender; fits = h.fits }) });
         senders = k.senders;
         few = λ g. (let c = rows_sum done_one t row_stepped s.rows (λ q i e. refl) in let d = k.few g in omega (arith, c, d));
         sent = sends_on k.sent (let c = rows_sum done_one t row_stepped s.rows (λ q i e. refl) in omega (arith, c));
@@ -305,6 +305,23 @@ module _ (s : State) (f : Bool) (o res : ℕ) (k : IsConsistent s f o res) (t : 
         sent = sends_more (sender_count s.sizes) r.finished s.sent k.sent (let p = rows_without done_one t s.rows r k.distinct at_row in omega (arith, p));
         ended = λ q y i j. one_logged s.records x y.lsn (end_of q.txn y) (k.ended q y (gone t s.rows q i).0 j);
       }
+
+-- pages were perhaps read
+pub kept_read : {s : State} {f : Bool} {o res : ℕ} (images : List (List ℕ)) → IsConsistent s f o res → IsConsistent (record s { images = images }) f o res
+kept_read images k = record {
+  incarnation = k.incarnation;
+  low = k.low;
+  fails = k.fails;
+  owes = k.owes;
+  room = k.room;
+  count = k.count;
+  distinct = k.distinct;
+  rows = k.rows;
+  senders = k.senders;
+  few = k.few;
+  sent = k.sent;
+  ended = k.ended;
+}
 
 -- what a device did, and whether it failed, is all that changed
 pub kept_device : (s : State) (f g : Bool) (o res left forced : ℕ) (failed : Bool) (log : List Record) → IsConsistent s f o res → log ≡ s.records → left ≡ res → (failed ≡ false → g ≡ false) → IsConsistent (record s { records = log; forced = forced; failed = failed }) g o left

@@ -1,6 +1,7 @@
 pub mod Told
 pub mod Opened
 pub mod KeptUp
+pub mod Locking
 pub mod Tested
 pub mod Earlier
 pub mod UnknownStay
@@ -14,7 +15,9 @@ pub mod Latches
 pub mod Free
 pub mod Leveled
 pub mod Calls
+pub mod Frames
 pub mod SendCalls
+pub mod Wanting
 pub mod TakeCalls
 pub mod CloseCalls
 pub mod MarkCalls

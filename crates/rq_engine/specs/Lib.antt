@@ -5,6 +5,7 @@ pub mod Earlier
 pub mod Says
 pub mod Moves
 pub mod Receives
+pub mod Frames
 pub mod Invariant
 pub mod Answers
 pub mod Sends
@@ -15,6 +16,7 @@ pub mod Aborts
 pub mod Crash
 pub mod Checkpoint
 pub mod Migration
+pub mod Fixing
 pub mod Applied
 pub mod Devices
 pub mod Lists

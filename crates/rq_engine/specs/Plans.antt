@@ -1,4 +1,4 @@
--- What the engine's level is asked, what it plans, and what begins.
+-- What levels are asked, what they plan, and what begins.
 use Rattle.std.specs.Prelude.{◌≡◌, ℕ, ◌+◌, ◌^◌, ◌<◌, ◌≤◌, Bool, true, false, List, length, Option, Some, Result, Ok, Err, IfErr, IfOk}
 use Rattle.rq_model.specs.declared.record.Deed.{Deed}
 use Rattle.rq_model.specs.declared.record.Record.{Record}
@@ -27,9 +27,8 @@ use Rattle.rq_sound.specs.Groups.{slots_now}
 use Rattle.rq_sound.specs.Plans.{AreUnlatched, IsPlannedFrom}
 use Rattle.rq_sound.specs.Sound.{IsSound}
 use Rattle.rq_level.specs.LevelState.{LevelState}
-use Rattle.rq_level.specs.Meaning.{kept_at, meaning_of}
 use Rattle.rq_level.specs.Ops.{Job}
-use Rattle.rq_planner.specs.Answered.{IsAnswered, IsAnsweredBack, IsDeedFor, IsHeldUp, KnowsCells, MayBeAsked, MayPlan, RefusesPlan, SendTakesLowest, deed_of, wants_of}
+use Rattle.rq_planner.specs.Answered.{IsAnsweredBack, IsAnsweredFor, IsDeedFor, IsHeldUp, KnowsCells, MayBeAsked, RefusesPlan, SendTakesLowest, deed_of}
 use Rattle.rq_planner.specs.Asked.{Asked, Task, doing_sender, known}
 use Rattle.rq_planner.specs.Asked.Task.{Chain, Tag}
 use Rattle.rq_engine.specs.Aborts.{UndoTakesLowest}
@@ -37,6 +36,7 @@ use Rattle.rq_engine.specs.Answers.{HasNothingUnderWay}
 use Rattle.rq_engine.specs.Applied.{OnLatched}
 use Rattle.rq_engine.specs.Closes.{close_latched}
 use Rattle.rq_engine.specs.Earlier.{IsEarlier, IsSoundOver, on}
+use Rattle.rq_engine.specs.Frames.{NotBegun}
 use Rattle.rq_engine.specs.Marks.{mark_latched}
 use Rattle.rq_engine.specs.Sends.{take_latched}
 
@@ -142,8 +142,7 @@ LevelAnswer = State → List LevelState → Result Plan Refusal → Type 0
 
 -- to something that is to be done
 abbrev pub to_job : Job → LevelAnswer
-to_job job s levels answer = IsAnswered s (wants_of levels job.level) job
-    (MayPlan s (meaning_of job.level) (kept_at levels job.level) job) answer
+to_job job s levels answer = IsAnsweredFor s levels job answer
 
 -- to a record that is to be taken back
 abbrev pub to_undo : Record → LevelAnswer
@@ -174,10 +173,10 @@ pub record IsOwnPlan (s : State) (task : Task) (answer : Result Plan Refusal) : 
   pub few : IfOk answer (λ p. length p.writes.items + 1 ≤ records_of task)
   pub latched : IsByLatches s task answer
 
--- what is planned begins, unless memory is wanting; what is not planned is refused as it was
+-- what is planned begins, unless memory or frames are wanting or a device fails; what is not planned is refused as it was
 abbrev pub ComesOf : {X : Type 0} → Result Plan Refusal → (HasBegun : Plan → Type 0) → Result X Refusal → Type 0
 ComesOf (Ok p) HasBegun (Ok x) = HasBegun p
-ComesOf (Ok p) HasBegun (Err r) = r ≡ why.NoMemory
+ComesOf (Ok p) HasBegun (Err r) = NotBegun (Unit {0}) r
 ComesOf (Err r) HasBegun answer = answer ≡ Err r
 
 -- the levels are asked, and what they plan begins
@@ -187,16 +186,31 @@ pub record BeginsAsPlanned {X : Type 0} (s : State) (MayAnswer : LevelAnswer) (H
   pub asked : LevelsAnswer s MayAnswer plan
   pub begun : ComesOf plan HasBegun answer
 
--- What is answered to a start of what is asked. It is refused as latched exactly where latches hold it up, and for want of memory
--- alone otherwise where a sound store may do it.
+-- why nothing begins: frames are wanting or a device failed, or there is no plan
+abbrev pub RefusesStart : (IsHeld : Type 0) → Refusal → Type 0
+RefusesStart IsHeld why.PoolFull = Unit {0}
+RefusesStart IsHeld why.DiskRead = Unit {0}
+RefusesStart IsHeld why.DiskWrite = Unit {0}
+RefusesStart IsHeld r = RefusesPlan IsHeld r
+
+-- What is answered to a start of what is asked. It is refused as latched exactly where latches hold it up. Where a sound store may
+-- do it, it is refused otherwise for want of memory or frames alone, or as a device failed.
 pub record IsStartOf {X : Type 0} (s : State) (asked : Asked) (HasBegun : Type 0) (answer : Result X Refusal) : Type 0 where
   pub begun : IfOk answer (λ _. HasBegun)
   pub free : IfOk answer (λ _. IsHeldUp (known_part s) asked → ⊥)
-  pub causes : IfErr answer (RefusesPlan (IsHeldUp (known_part s) asked))
+  pub causes : IfErr answer (RefusesStart (IsHeldUp (known_part s) asked))
   pub sound : (e : List Record) → IsEarlier e s → IsSound (on e s) → MayBeAsked (on e s) asked
       → IfErr answer (λ r. TellsDamage r → ⊥)
 
+-- the writes of a plan of the task
+abbrev pub AreWritesFor : State → Task → List SlotWrite → Type 0
+AreWritesFor s task ws = (plan : Planned) × IsDeedPlan s task plan × (plan.writes ≡ ws)
+
 -- ---- receives from whichever sender
+
+-- the writes of a plan of a receive of a message that waits
+abbrev pub AreTakeWrites : State → Txn → List SlotWrite → Type 0
+AreTakeWrites s t ws = (sender : ℕ) × WaitsFor s t sender × AreWritesFor s (Chain (Receive sender)) ws
 
 -- a receive of a message that waits may start: its transaction has nothing under way, and the log has room
 pub record MayTake (s : State) (t : Txn) (n : ℕ) : Type 0 where
@@ -224,7 +238,7 @@ AreHeldUp s t P = (g : ℕ) → P g → WaitsFor s t g → take_latched s g ≡ 
 pub record IsTakeOf {X : Type 0} (s : State) (t : Txn) (n : ℕ) (P : ℕ → Type 0) (answer : Result X Refusal) (new : State)
     : Type 0 where
   pub begun : IfOk answer (λ _. HasTaken s t n new)
-  pub causes : IfErr answer (RefusesPlan (AreHeldUp s t P))
+  pub causes : IfErr answer (RefusesStart (AreHeldUp s t P))
   pub sound : IsSoundOver s → IfErr answer (λ r. TellsDamage r → ⊥)
 
 abbrev pub is_latch : Refusal → Bool

@@ -16,6 +16,9 @@ ghost use Rattle.rq_engine.specs.Answers.{AnswersLegally, RefusesOver};
 ghost use Rattle.rq_engine.specs.Applied.{OnLatched, StartsUnlatched};
 ghost use Rattle.rq_engine.specs.Lists.{IsCloseBegun, IsCloseStarted};
 ghost use Rattle.rq_engine.specs.Tested.{tested};
+ghost use Rattle.rq_engine.specs.Closes.{IsClosePlan};
+ghost use Rattle.rq_sound.specs.Groups.{slots_now};
+ghost use Rattle.rq_engine.specs.Fixing.{AreWritesOf, HadFrames, HasNoFrames, OnPoolFull};
 
 use crate::engine::Engine;
 use rq_disk::{LogDevice, PageDevice};
@@ -30,7 +33,7 @@ impl<P: PageDevice, L: LogDevice, B: Level> Engine<P, L, B> {
     ///
     /// # Errors
     /// `Failed`, `UnknownTransaction`, `NotOpen`, `Unfinished`, `UnknownSender`, `SenderBusy`, `Closed`, `LogFull`,
-    /// `Latched`, `NoMemory`; of a store that is not sound also `Damaged`.
+    /// `Latched`, `PoolFull`, `NoMemory`, `DiskRead`, `DiskWrite`; of a store that is not sound also `Damaged`.
     pub fn start_close(&mut self, txn: Txn, sender: u32) -> Result<Sub, Refusal>
         ensures answered { AnswersLegally P.PageDevice L.LogDevice self.old
             (Start_close txn sender) (λ sub. Gave_sub sub.txn sub.number) result self.new }
@@ -41,6 +44,9 @@ impl<P: PageDevice, L: LogDevice, B: Level> Engine<P, L, B> {
         ensures begun { IfOk result (λ sub. IsCloseBegun self.old.state txn sender sub self.new.state) }
         ensures latched { (e : List Record) → IsEarlier e self.old.state → IsSound (on e self.old.state)
             → StartsUnlatched (on e self.old.state) (Start_close txn sender) result }
+        ensures frames { IfOk result (λ sub. HadFrames self.old sub self.new.state) }
+        ensures full { IfErr result (OnPoolFull (HasNoFrames (λ ws. P.honest self.new.pages → AreWritesOf self.old.state
+            (λ u. IsClosePlan self.old.state.sizes (slots_now self.old.state) u sender) ws) self.old)) }
         ensures devices { KeepsDevices P.PageDevice self.old self.new }
         ensures faults { AnswerCounts P.PageDevice result self.old self.new }
         ensures refused { IfErr result (λ r. RefusedButRead (Start_close txn sender) self.old r self.new) }

@@ -8,20 +8,22 @@ ghost use Rattle.rq_engine.specs.Earlier.{on, IsEarlier};
 ghost use Rattle.rq_model.specs.declared.record.Record.{Record as AnyRecord};
 ghost use Rattle.rq_model.specs.Commits.{op_of};
 ghost use Rattle.rq_model.specs.Content.{said};
-ghost use Rattle.rq_engine.specs.KeptUp.{AnswerCounts, HasReadPages, HasTried, KeepsDevices, RefusedButRead, StopsStart};
+ghost use Rattle.rq_engine.specs.KeptUp.{AnswerCounts, HasReadPages, HasTried, IsGivenBy, KeepsDevices, RefusedButRead};
+ghost use Rattle.rq_sound.specs.Plans.{AreUnlatched};
 ghost use Rattle.rq_engine.specs.Answers.{AnswersLegally};
 ghost use Rattle.rq_engine.specs.Applied.{TakesUnlatched};
 ghost use Rattle.rq_engine.specs.Invariant.{IsDoneConsistent, IsLogged, end_of};
 ghost use Rattle.rq_engine.specs.Receives.{undoing_of};
-ghost use Rattle.rq_engine.specs.Aborts.{IsTurnedBack, IsUndoBegun, UndoSays};
+ghost use Rattle.rq_engine.specs.Aborts.{IsTurnedBack, IsUndoBegun, IsUndoOf, UndoSays};
 ghost use Rattle.rq_store.specs.State.{ledger_of, op_done};
 ghost use Rattle.rq_model.specs.Vocabulary.{is_some};
 ghost use Rattle.rq_planner.specs.Answered.{IsPlanned};
 ghost use Rattle.rq_planner.specs.Asked.{Undo};
-ghost use Rattle.rq_planner.specs.Lawful.{IsLawfulInverse};
+ghost use Rattle.rq_planner.specs.Lawful.{IsLawfulInverse, MayRefuse};
 ghost use Rattle.rq_model.specs.declared.record.Deed.{Deed};
 ghost use Rattle.rq_views.specs.InStore.{IsDeedOf};
-ghost use Rattle.rq_engine.specs.Plans.{BeginsAsPlanned, HasBegunBack, HasTurnedBack, IsStartOf, LevelsAnswer, known_part, to_undo, turned_back};
+ghost use Rattle.rq_engine.specs.Plans.{BeginsAsPlanned, HasBegunBack, HasTurnedBack, IsInversePlan, IsStartOf, LevelsAnswer, known_part, to_undo, turned_back};
+ghost use Rattle.rq_engine.specs.Fixing.{AreWritesOf, StartHasFrames, TakeHasFrames};
 
 use crate::engine::Engine;
 use rq_disk::{LogDevice, PageDevice};
@@ -49,7 +51,7 @@ impl<P: PageDevice, L: LogDevice, B: Level> Engine<P, L, B> {
     ///
     /// # Errors
     /// `Failed`, `UnknownTransaction`, `NotOpen` where it is not aborting, `Unfinished`, `LogFull`, `Latched`,
-    /// `NoMemory`; of a store that is not sound also `Damaged`.
+    /// `PoolFull`, `NoMemory`, `DiskRead`, `DiskWrite`; of a store that is not sound also `Damaged`.
     pub fn undo_next(&mut self, txn: Txn) -> Result<Option<Sub>, Refusal>
         ensures answered { AnswersLegally P.PageDevice L.LogDevice self.old (Undo_next txn) undoing_of result self.new }
         ensures sizes { self.new.state.sizes ≡ self.old.state.sizes }
@@ -59,6 +61,8 @@ impl<P: PageDevice, L: LogDevice, B: Level> Engine<P, L, B> {
             ((self.new ≡ self.old) × UndoSays self.old.state txn None self.new.state)) }
         ensures latched { P.honest self.new.pages → (e : List AnyRecord) → IsEarlier e self.old.state → IsSound (on e self.old.state)
             → TakesUnlatched (on e self.old.state) (Undo_next txn) result }
+        ensures frames { TakeHasFrames (λ ws. P.honest self.new.pages → AreWritesOf self.old.state (IsUndoOf self.old.state txn) ws)
+            self.old result self.new.state }
         ensures devices { KeepsDevices P.PageDevice self.old self.new }
         ensures faults { AnswerCounts P.PageDevice result self.old self.new }
         ensures refused { IfErr result (λ r. RefusedButRead (Undo_next txn) self.old r self.new) }
@@ -77,8 +81,8 @@ impl<P: PageDevice, L: LogDevice, B: Level> Engine<P, L, B> {
         }
     }
 
-    // Has the inverse of a finished operation planned from the slots as they are. Takes all that its steps and its end
-    // need, and lets it begin.
+    // Has the inverse of a finished operation planned from the slots as they are. Takes its frames and all that its steps and its
+    // end need, and lets it begin.
     fn start_inverse(&mut self, txn: Txn, number: u64, done: &Finished) -> Result<(), Refusal>
         requires ready { IsTurnedBack self.old.state txn number (Some done.now) }
         requires kept { IsDoneConsistent self.old.state.sizes done.now }
@@ -86,11 +90,13 @@ impl<P: PageDevice, L: LogDevice, B: Level> Engine<P, L, B> {
         requires log { log_full (ledger_of self.old.state) (undo_cost (Some (op_done done.now))) ≡ false }
         // Whatever the device gave of pages that are read.
         ensures tried { HasTried P.PageDevice self.old (HasBegunBack self.old.state txn number done.now) result self.new }
+        ensures frames { StartHasFrames (λ ws. P.honest self.new.pages → IsInversePlan self.old.state done.now.deed ws) self.old
+            (record { txn = txn; number = number }) result self.new.state }
         ensures plain { IfErr result (λ r. r ≢ Refusal.Failed) }
         // Of an honest one.
         ensures started { P.honest self.new.pages → IsStartOf self.old.state (Undo done.now.deed)
             (HasTurnedBack self.old.state txn number done.now self.new.state) result }
-        ensures answered { P.honest self.new.pages → BeginsAsPlanned self.old.state (to_undo (end_of txn done.now))
+        ensures answered { IsGivenBy P.PageDevice result self.new → BeginsAsPlanned self.old.state (to_undo (end_of txn done.now))
             (λ plan. self.new.state ≡ turned_back self.old.state txn number done.now plan.writes.items) result }
     {
         match self.plan_inverse(&op_end_of(txn, done)) {
@@ -117,16 +123,16 @@ impl<P: PageDevice, L: LogDevice, B: Level> Engine<P, L, B> {
         // Whatever the device gave of pages that are read.
         ensures read { HasReadPages P.PageDevice self.old self.new }
         ensures counts { AnswerCounts P.PageDevice result self.old self.new }
-        ensures causes { IfErr result StopsStart }
+        ensures causes { IfErr result MayRefuse }
         ensures lawful { IfOk result (IsLawfulInverse self.old.state.sizes) }
-        ensures few { (d : Deed) → deed_back told.now ≡ Some d → IsDeedOf self.old.state.sizes d
+        ensures free { IfOk result (λ p. AreUnlatched self.old.state p.writes.items) }
+        ensures few { (d : Deed) → deed_back told.now ≡ Some d
             → IfOk result (λ plan. length plan.writes.items + 1 ≤ undo_cost (Some (op_of (said d)))) }
-        // Of an honest one.
-        ensures answered { P.honest self.new.pages → LevelsAnswer self.old.state (to_undo told.now) result }
-        ensures planned { P.honest self.new.pages → (d : Deed) → deed_back told.now ≡ Some d → IsDeedOf self.old.state.sizes d
+        // Of an honest one that did not fail.
+        ensures answered { IsGivenBy P.PageDevice result self.new → LevelsAnswer self.old.state (to_undo told.now) result }
+        ensures planned { IsGivenBy P.PageDevice result self.new → (d : Deed) → deed_back told.now ≡ Some d → IsDeedOf self.old.state.sizes d
             → IsPlanned (known_part self.old.state) (Undo d) result }
     {
-        self.pages.shows_framed();
         let room = self.transactions.spare();
         self.planner.plan_inverse(self.alloc, room, &mut self.pages, &self.transactions, told)
     }

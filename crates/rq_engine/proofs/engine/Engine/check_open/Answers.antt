@@ -1,4 +1,4 @@
-use Rattle.std.proofs.Common.{sym, ap, ◌∙◌, arith}
+use Rattle.std.proofs.Common.{refl, sym, ap, ◌∙◌, arith}
 use Rattle.rq_store.specs.State.{State}
 use Rattle.rq_txn.specs.Rows.{found_row}
 use Rattle.rq_engine.proofs.Keeping.{kept_at}
@@ -28,3 +28,7 @@ overflow_add-result g c =
 pub returns-clause-passes : goal.returns-clause-passes
 returns-clause-passes g c =
     ready c.args.self.now.state c.args.txn _ c.in_ok-check_running.ensures.running (ap (λ (s : State). found_row c.args.txn s.rows) (sym (state_is c.self.view_is)) ∙ c.in-Some.ensures.found) c.if-row.false (no_way _ (sym c.if-is_some.ensures))
+
+pub returns-clause-ready : goal.returns-clause-ready
+returns-clause-ready g c =
+    rw (ap (λ (s : State). found_row c.args.txn s.rows) (sym (state_is c.self.view_is)) ∙ c.in-Some.ensures.found) (no_way _ (sym c.if-is_some.ensures), refl)
