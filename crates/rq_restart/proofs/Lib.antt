@@ -4,6 +4,7 @@ pub mod Parsing
 pub mod Formats
 pub mod Loading
 pub mod Counting
+pub mod Tabled
 pub mod Moments
 pub mod Paths
 pub mod Undos

@@ -62,9 +62,9 @@ ok_due {E} sure (Ok d) ds t lsn f = λ h e i of at. let k : ◌≡◌ {A = Resul
 ok_due sure (Err e) ds t lsn f = tt
 
 -- and why there is none
-pub err_told : {A L : Type 0} (g : Ghosts L) (old new : L) (count n : ℕ) (x : Result A Refusal) (a : A) → IfErr x (λ e. e ≡ why.Damaged (damage.Record n)) → (g.honest new → x ≡ Ok a) → g.faults new ≡ g.faults old → IfErr x (λ e. NotToldFor g e count old new)
-err_told g old new count n (Ok r) a named is same = tt
-err_told {A} g old new count n (Err e) a named is same = subst (λ x. NotToldFor g x count old new) (sym named) (same, λ h. let bad : ◌≡◌ {A = Result A Refusal} (Err e) (Ok a) = is h in cc)
+pub err_told : {A L : Type 0} (g : Ghosts L) (old new : L) (lsn count n : ℕ) → n ≡ lsn → (x : Result A Refusal) (a : A) → IfErr x (λ e. e ≡ why.Damaged (damage.Record n)) → (g.honest new → x ≡ Ok a) → g.faults new ≡ g.faults old → IfErr x (λ e. NotToldFor g e lsn count old new)
+err_told g old new lsn count n at (Ok r) a named is same = tt
+err_told {A} g old new lsn count n at (Err e) a named is same = subst (λ x. NotToldFor g x lsn count old new) (sym named) (at, same, λ h. let bad : ◌≡◌ {A = Result A Refusal} (Err e) (Ok a) = is h in cc)
 
 -- ---- a log that has room
 
@@ -90,10 +90,10 @@ module _ (log : List Record) (place : ℕ) where
   why_not_given g old new lsn few _ h = absurd h
 
 -- a record that stands there is given, unless the device fails
-pub not_told : {L : Type 0} (g : Ghosts L) (old new : L) (lsn place : ℕ) (log : List Record) (r : Record) → IsAt log place r → (e : Refusal) → NotGivenFor g e lsn log place old new → NotToldFor g e (length log) old new
+pub not_told : {L : Type 0} (g : Ghosts L) (old new : L) (lsn place : ℕ) (log : List Record) (r : Record) → IsAt log place r → (e : Refusal) → NotGivenFor g e lsn log place old new → NotToldFor g e lsn (length log) old new
 not_told g old new lsn place log r at why.LogFull h = h
 not_told g old new lsn place log r at why.DiskRead h = h
-not_told g old new lsn place log r at (why.Damaged (damage.Record n)) h = (h.1, λ honest. h.2 honest r at)
+not_told g old new lsn place log r at (why.Damaged (damage.Record n)) h = (h.0, h.1, λ honest. h.2 honest r at)
 not_told g old new lsn place log r at _ h = absurd h
 
 -- one that is not of the operation of its place is not the one that stands there
@@ -185,17 +185,17 @@ pub ok_of : {A E : Type 0} (x y : Result A E) (P : A → Type 0) → IfOk x (λ 
 ok_of (Ok r) y P is h = subst (λ z. IfOk z P) is h
 ok_of (Err e) y P is h = tt
 
-module _ {L : Type 0} (g : Ghosts L) (old new : L) (count : ℕ) where
-  pub not_undone : (e : Refusal) → NotToldFor g e count old new → NotUndoneFor g e count old new
+module _ {L : Type 0} (g : Ghosts L) (old new : L) (lsn count : ℕ) where
+  pub not_undone : (e : Refusal) → NotToldFor g e lsn count old new → NotUndoneFor g e lsn count old new
   not_undone why.LogFull h = h
   not_undone why.DiskRead h = h
   not_undone (why.Damaged (damage.Record n)) h = h
   not_undone _ h = absurd h
 
-  pub err_of : (x y : Result Record Refusal) → IfErr x (NotMadeFor y) → count < 2 ^ 50 → g.faults new ≡ g.faults old → IfErr y (λ e. NotToldFor g e count old new) → IfErr x (λ e. NotUndoneFor g e count old new)
+  pub err_of : (x y : Result Record Refusal) → IfErr x (NotMadeFor y) → count < 2 ^ 50 → g.faults new ≡ g.faults old → IfErr y (λ e. NotToldFor g e lsn count old new) → IfErr x (λ e. NotUndoneFor g e lsn count old new)
   err_of (Ok r) y is few same h = tt
-  err_of (Err e) (Ok r) is few same h = subst (λ z. NotUndoneFor g z count old new) (sym is) (few, same)
-  err_of (Err e) (Err wrong) is few same h = not_undone e (subst (λ z. NotToldFor g z count old new) (sym is) h)
+  err_of (Err e) (Ok r) is few same h = subst (λ z. NotUndoneFor g z lsn count old new) (sym is) (few, same)
+  err_of (Err e) (Err wrong) is few same h = not_undone e (subst (λ z. NotToldFor g z lsn count old new) (sym is) h)
 
 -- the write that puts back what the record found makes the record that is told
 pub put_back_told : (kept : Place) (r : Record) (w : SlotWrite) → PutsBackWrite r w → undo_told kept r ≡ Ok (records.PageUndo kept.by.txn kept.by.number kept.lsn (w.at / 16) (w.at % 16) w.after)
@@ -309,7 +309,7 @@ module _ (f : Analysis) (older : List Record) (are : IsAnalysisOf f older) (o : 
       )
 
 -- the record that was read at a place is that which stands there, unless the device failed
-pub not_read : {L : Type 0} (g : Ghosts L) (old new : L) (lsn place : ℕ) (log : List Record) (r : Record) → IsAt log place r → (e : Refusal) → NotReadAgainFor g e log place old new → NotReadFor g (told_again lsn e) old new
+pub not_read : {L : Type 0} (g : Ghosts L) (old new : L) (lsn place : ℕ) (log : List Record) (r : Record) → IsAt log place r → (e : Refusal) → NotReadAgainFor g e log place old new → NotReadFor g (told_again lsn e) lsn old new
 not_read g old new lsn place log r at why.DiskRead h = h
-not_read g old new lsn place log r at (why.Damaged (damage.Record n)) h = (h.1, λ honest. h.2 honest r at)
+not_read g old new lsn place log r at (why.Damaged (damage.Record n)) h = (refl, h.1, λ honest. h.2 honest r at)
 not_read g old new lsn place log r at _ h = absurd h

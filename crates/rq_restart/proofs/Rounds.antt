@@ -346,8 +346,8 @@ pub all_ended : (log : List Record) (f : Analysis) → IsAnalysisOf f log → f.
 all_ended log f are nothing none = ap (λ (x : OpenWorkView). x.active) (sym are.open_work) ∙ nobody_left f.open_work.active (ap (λ ds. least_free ds f.open_work.active) (sym nothing) ∙ none)
 
 -- what is to be taken back is not told again where the log is full or the device fails
-pub told_stops : {P L : Type 0} (z : Sizes) (log : List Record) (old : Pooled P) (f : Analysis) → IsAnalysisOf f log → (g : Ghosts L) (was now : L) (e : Refusal) → NotToldFor g e (length log) was now → g.honest now → AbortStops z (IsAbortingFrom z log old) log old (IsShown log old) e
-told_stops z log old f are g was now why.LogFull n h = record { last = log; aborting = aborting_none z (RepeatedSince z log (paged old)) log; full = n.0; way = shown_way z log old f are }
-told_stops z log old f are g was now why.DiskRead n h = tt
-told_stops z log old f are g was now (why.Damaged (damage.Record m)) n h = absurd (n.1 h)
-told_stops z log old f are g was now _ n h = absurd n
+pub told_stops : {P L : Type 0} (z : Sizes) (log : List Record) (old : Pooled P) (f : Analysis) → IsAnalysisOf f log → (g : Ghosts L) (was now : L) (lsn : ℕ) (e : Refusal) → NotToldFor g e lsn (length log) was now → g.honest now → AbortStops z (IsAbortingFrom z log old) log old (IsShown log old) e
+told_stops z log old f are g was now lsn why.LogFull n h = record { last = log; aborting = aborting_none z (RepeatedSince z log (paged old)) log; full = n.0; way = shown_way z log old f are }
+told_stops z log old f are g was now lsn why.DiskRead n h = tt
+told_stops z log old f are g was now lsn (why.Damaged (damage.Record m)) n h = absurd (n.2 h)
+told_stops z log old f are g was now lsn _ n h = absurd n

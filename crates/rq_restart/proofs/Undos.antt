@@ -29,7 +29,7 @@ use Rattle.rq_analysis.specs.Pages.IsNextUndo.{Voids, Undoes}
 use Rattle.rq_analysis.proofs.Lists.{in_undoable, in_with, in_without, sub_in}
 use Rattle.rq_analysis.proofs.Stacks.{in_newest}
 use Rattle.rq_analysis.proofs.Undos.{undo_leaves_less, undoing_more}
-use Rattle.rq_restart.specs.Again.{IsLike, IsLikeUndo, NotUndoneFor}
+use Rattle.rq_restart.specs.Again.{IsLike, IsLikeUndo, NextNotUndoneFor}
 use Rattle.rq_restart.specs.Found.{MayComeNext}
 use Rattle.rq_restart.specs.Repeating.{ArePagesCounted, Belongs, IsRecordRedone, Marks, Paged, Repeats}
 use Rattle.rq_restart.specs.Undoing.{HandsOverNothing, StepStops, UndoStops}
@@ -106,13 +106,14 @@ module _ {L : Type 0} (g : Ghosts L) (only_now : (d : L) (c : List ℕ) → g.le
 
 -- nothing is handed over, one record after the other
 pub none_handed : {P L : Type 0} (g : Ghosts L) → ((d : L) (c : List ℕ) → g.left_since d (g.moment d) c → g.may_leave d c) → (pages : Pooled P) (log : Logged L) → log.failed ≡ false → HandsOverNothing g pages pages log log
-none_handed g only_now pages log running = record { sizes = refl; pages_device = refl; read = still g only_now log.device; forced = refl; running = running; settled = refl }
+none_handed g only_now pages log running = record { sizes = refl; pages_device = refl; frames = refl; read = still g only_now log.device; forced = refl; running = running; settled = refl }
 
 -- a record was read again
 pub one_read : {P L : Type 0} (g : Ghosts L) (pages : Pooled P) (log now : Logged L) → log.failed ≡ false → now ≡ record log { device = now.device } → IsRead g log.device now.device → HandsOverNothing g pages pages log now
 one_read g pages log now running same read = record {
   sizes = refl;
   pages_device = refl;
+  frames = refl;
   read = read;
   forced = ap (λ (l : Logged _). l.forced) same;
   running = ap (λ (l : Logged _). l.failed) same ∙ running;
@@ -123,6 +124,7 @@ pub and_then : {P L : Type 0} {g : Ghosts L} {a b c : Pooled P} {x y z : Logged 
 and_then {P} {L} {g} {a} {b} {c} {x} {y} {z} h k = record {
   sizes = k.sizes ∙ h.sizes;
   pages_device = k.pages_device ∙ h.pages_device;
+  frames = k.frames ∙ h.frames;
   read = read_twice g x.device y.device z.device h.read k.read;
   forced = k.forced ∙ h.forced;
   running = k.running;
@@ -180,11 +182,12 @@ module _ (z y : Sizes) (log last : List Record) (first now : Paged) (sizes : y �
   going_stops r h _ is next s start before = absurd s
 
   -- or what is next was not told
-  pub going_waits : {L : Type 0} (g : Ghosts L) (a b : L) (h : OpenWorkView) (next : NextUndo) (e : Refusal) → h ≡ open_work_of last → IsUndoneNext h next → NotUndoneFor g e (length last) a b → g.honest b → (start : Paged) → UndoStops z log start e
-  going_waits g a b h next why.NoMemory is there s honest start =
-      let n = one_next h next there in
+  pub going_waits : {L : Type 0} (g : Ghosts L) (a b : L) (h : OpenWorkView) (next : NextUndo) (e : Refusal) → h ≡ open_work_of last → IsUndoneNext h next → NextNotUndoneFor g e next (length last) a b → g.honest b → (start : Paged) → UndoStops z log start e
+  going_waits g a b h (Void sub) e is there s honest start = absurd s
+  going_waits g a b h (Write lsn) why.NoMemory is there s honest start =
+      let n = one_next h (Write lsn) there in
       record { undone = last; undoing = k.undoing; newest = n.0; next = subst (λ j. IsNextUndo j n.0) is n.1 }
-  going_waits g a b h next why.DiskRead is there s honest start = tt
-  going_waits g a b h next why.LogFull is there s honest start = record { undone = last; undoing = k.undoing; full = s.0 }
-  going_waits g a b h next (why.Damaged (damage.Record n)) is there s honest start = absurd (s.1 honest)
-  going_waits g a b h next _ is there s honest start = absurd s
+  going_waits g a b h (Write lsn) why.DiskRead is there s honest start = tt
+  going_waits g a b h (Write lsn) why.LogFull is there s honest start = record { undone = last; undoing = k.undoing; full = s.0 }
+  going_waits g a b h (Write lsn) (why.Damaged (damage.Record n)) is there s honest start = absurd (s.2 honest)
+  going_waits g a b h (Write lsn) _ is there s honest start = absurd s

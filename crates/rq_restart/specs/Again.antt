@@ -105,20 +105,25 @@ module _ {L : Type 0} (g : Ghosts L) where
       × (g.honest new → (r : Record) → IsAt records place r → ⊥)
   NotGivenFor _ lsn records place old new = ⊥
 
-  -- the same of a record that stands there, behind which so many records stand in the log
-  abbrev pub NotToldFor : Refusal → ℕ → L → L → Type 0
-  NotToldFor why.LogFull count old new = (2 ^ 50 ≤ count) × (g.faults new ≡ g.faults old)
-  NotToldFor why.DiskRead count old new = g.faults new ≡ (g.faults old + 1) % 2 ^ 64
-  NotToldFor (why.Damaged (damage.Record n)) count old new = (g.faults new ≡ g.faults old) × (g.honest new → ⊥)
-  NotToldFor _ count old new = ⊥
+  -- the same of a record that stands there and has this LSN, in a log of so many records
+  abbrev pub NotToldFor : Refusal → ℕ → ℕ → L → L → Type 0
+  NotToldFor why.LogFull lsn count old new = (2 ^ 50 ≤ count) × (g.faults new ≡ g.faults old)
+  NotToldFor why.DiskRead lsn count old new = g.faults new ≡ (g.faults old + 1) % 2 ^ 64
+  NotToldFor (why.Damaged (damage.Record n)) lsn count old new = (n ≡ lsn) × (g.faults new ≡ g.faults old) × (g.honest new → ⊥)
+  NotToldFor _ lsn count old new = ⊥
 
   -- why what such a record tells was not undone: memory is wanting only where the log has room for one more
-  abbrev pub NotUndoneFor : Refusal → ℕ → L → L → Type 0
-  NotUndoneFor why.NoMemory count old new = (count < 2 ^ 50) × (g.faults new ≡ g.faults old)
-  NotUndoneFor e count old new = NotToldFor e count old new
+  abbrev pub NotUndoneFor : Refusal → ℕ → ℕ → L → L → Type 0
+  NotUndoneFor why.NoMemory lsn count old new = (count < 2 ^ 50) × (g.faults new ≡ g.faults old)
+  NotUndoneFor e lsn count old new = NotToldFor e lsn count old new
 
-  -- the same while the log is read
-  abbrev pub NotReadFor : Refusal → L → L → Type 0
-  NotReadFor why.DiskRead old new = g.faults new ≡ (g.faults old + 1) % 2 ^ 64
-  NotReadFor (why.Damaged (damage.Record n)) old new = (g.faults new ≡ g.faults old) × (g.honest new → ⊥)
-  NotReadFor _ old new = ⊥
+  -- why what is next was not undone: it is a write, which its record tells
+  abbrev pub NextNotUndoneFor : Refusal → NextUndo → ℕ → L → L → Type 0
+  NextNotUndoneFor e (Void sub) count old new = ⊥
+  NextNotUndoneFor e (Write lsn) count old new = NotUndoneFor e lsn count old new
+
+  -- why a record that was read, and has this LSN, was not compared with the one whose write it undoes
+  abbrev pub NotReadFor : Refusal → ℕ → L → L → Type 0
+  NotReadFor why.DiskRead lsn old new = g.faults new ≡ (g.faults old + 1) % 2 ^ 64
+  NotReadFor (why.Damaged (damage.Record n)) lsn old new = (n ≡ lsn) × (g.faults new ≡ g.faults old) × (g.honest new → ⊥)
+  NotReadFor _ lsn old new = ⊥

@@ -190,11 +190,12 @@ module _ {L : Type 0} (g : log_device.Ghosts L) where
     pub running : read.failed ≡ false
 
   -- Over pages that were first so the log was read, gone through and mended, and the next incarnation begun: with these
-  -- tables an engine may be opened over it.
+  -- tables an engine may be opened over it. The pages stand in the frames that they stood in, and none was fixed or let go.
   pub record OpensLog {P : Type 0} (first now : Pooled P) (log : L) (new : Logged L) (cells : ℕ) (waiting : List ℕ)
       (sent : SentBy) (planner : List LevelState) (report : Report) : Type 0 where
     pub sizes : now.sizes ≡ first.sizes
     pub device : now.device ≡ first.device
+    pub frames : now.frames ≡ first.frames
     pub pool : IsPool now.sizes now.images
     pub cells_used : cells ≡ count_used now.sizes (slots_in now.sizes now.images)
     pub read : Logged L

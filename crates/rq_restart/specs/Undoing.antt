@@ -14,10 +14,11 @@ use Rattle.rq_analysis.specs.Pages.{IsNextUndo, IsUndoing}
 use Rattle.rq_restart.specs.Repeating.{Paged, Belongs, Repeats}
 
 -- Records were made behind the log, on the pages too, and nothing was handed over: the pages have the device that they had,
--- that of the log was only read, and the log has not failed.
+-- and stand in the frames that they stood in. That of the log was only read, and the log has not failed.
 pub record HandsOverNothing {P L : Type 0} (g : Ghosts L) (old new : Pooled P) (log now : Logged L) : Type 0 where
   pub sizes : new.sizes ≡ old.sizes
   pub pages_device : new.device ≡ old.device
+  pub frames : new.frames ≡ old.frames
   pub read : IsRead g log.device now.device
   pub forced : now.forced ≡ log.forced
   pub running : now.failed ≡ false

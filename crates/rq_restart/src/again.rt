@@ -14,7 +14,7 @@ ghost use Rattle.rq_analysis.specs.OpenWorkView.{lsn_undoable, undoable_by};
 ghost use Rattle.rq_analysis.specs.Pages.{IsNextUndo, IsUndoneNext, void_of};
 ghost use Rattle.rq_analysis.specs.Rules.{op_of};
 ghost use Rattle.rq_restart.specs.Aborting.{blamed_on};
-ghost use Rattle.rq_restart.specs.Again.{ComparesOwn, HasRecord, IsLikeUndo, IsOwnUndo, IsToldByOwn, NotGivenFor, NotMadeFor, NotReadFor, NotToldFor, NotUndoneFor, WroteOver, due_told, told_again, undo_told};
+ghost use Rattle.rq_restart.specs.Again.{ComparesOwn, HasRecord, IsLikeUndo, IsOwnUndo, IsToldByOwn, NextNotUndoneFor, NotGivenFor, NotMadeFor, NotReadFor, NotToldFor, NotUndoneFor, WroteOver, due_told, told_again, undo_told};
 ghost use Rattle.rq_restart.specs.Found.{IsAnalysisOf};
 
 use crate::analysis::Analysis;
@@ -48,7 +48,7 @@ pub(crate) fn undo_record<L: LogDevice, B: Level>(
     ensures like { IfOk result (λ r. IsLikeUndo analysis.now.open_work r) }
     ensures is { IfOk result (λ r. L.honest log.new.device → IsNextUndo analysis.now.open_work r) }
     ensures own { IfOk result (IsOwnUndo analysis.now.places.writes next) }
-    ensures err { IfErr result (λ e. NotUndoneFor L.LogDevice e (length log.old.records) log.old.device log.new.device) }
+    ensures err { IfErr result (λ e. NextNotUndoneFor L.LogDevice e next (length log.old.records) log.old.device log.new.device) }
     ensures planner { planner.new ≡ planner.old }
     ensures cause { OnOk result (L.faults log.new.device ≡ L.faults log.old.device) }
     ensures same { log.new ≡ record log.old { device = log.new.device } }
@@ -83,7 +83,7 @@ fn undo_write<L: LogDevice, B: Level>(
     ensures like { IfOk result (λ r. IsLikeUndo analysis.now.open_work r) }
     ensures is { IfOk result (λ r. L.honest log.new.device → IsNextUndo analysis.now.open_work r) }
     ensures own { IfOk result (IsToldByOwn AnyRecord undo_told analysis.now.places.writes lsn) }
-    ensures err { IfErr result (λ e. NotUndoneFor L.LogDevice e (length log.old.records) log.old.device log.new.device) }
+    ensures err { IfErr result (λ e. NotUndoneFor L.LogDevice e lsn (length log.old.records) log.old.device log.new.device) }
     ensures planner { planner.new ≡ planner.old }
     ensures cause { OnOk result (L.faults log.new.device ≡ L.faults log.old.device) }
     ensures same { log.new ≡ record log.old { device = log.new.device } }
@@ -145,7 +145,7 @@ pub(crate) fn due_again<L: LogDevice>(
     ensures is { IfOk result (λ d. L.honest log.new.device → (e : Due) → In e analysis.now.dues → e.txn ≡ txn → e.lsn ≡ lsn
         → d ≡ e) }
     ensures own { IfOk result (IsToldByOwn Due due_told analysis.now.places.ends lsn) }
-    ensures err { IfErr result (λ e. NotToldFor L.LogDevice e (length log.old.records) log.old.device log.new.device) }
+    ensures err { IfErr result (λ e. NotToldFor L.LogDevice e lsn (length log.old.records) log.old.device log.new.device) }
     ensures cause { OnOk result (L.faults log.new.device ≡ L.faults log.old.device) }
     ensures same { log.new ≡ record log.old { device = log.new.device } }
     ensures read { IsRead L.LogDevice log.old.device log.new.device }
@@ -195,7 +195,7 @@ fn kept_record<L: LogDevice>(
     ensures is { IfOk result (λ kept. L.honest log.new.device → (s : AnyRecord) → IsAt log.old.records kept.0.place s
         → kept.1 ≡ s) }
     ensures room { OnOk result (length log.old.records < 2 ^ 50) }
-    ensures err { IfErr result (λ e. NotToldFor L.LogDevice e (length log.old.records) log.old.device log.new.device) }
+    ensures err { IfErr result (λ e. NotToldFor L.LogDevice e lsn (length log.old.records) log.old.device log.new.device) }
     ensures cause { OnOk result (L.faults log.new.device ≡ L.faults log.old.device) }
     ensures same { log.new ≡ record log.old { device = log.new.device } }
     ensures read { IsRead L.LogDevice log.old.device log.new.device }
@@ -272,7 +272,7 @@ pub(crate) fn puts_back<L: LogDevice>(
     requires plain { is_base next.now ≡ false }
     ensures told { IfOk result (λ yes. L.honest reader.new.device → (IsTrue yes ↔ PutsBack analysis.now.open_work next.now)) }
     ensures own { IfOk result (ComparesOwn analysis.now next.now) }
-    ensures err { IfErr result (λ e. NotReadFor L.LogDevice e reader.old.device reader.new.device) }
+    ensures err { IfErr result (λ e. NotReadFor L.LogDevice e lsn reader.old.device reader.new.device) }
     ensures cause { OnOk result (L.faults reader.new.device ≡ L.faults reader.old.device) }
     ensures same { reader.new ≡ record reader.old { device = reader.new.device } }
     ensures read { IsRead L.LogDevice reader.old.device reader.new.device }
@@ -306,7 +306,7 @@ fn own_record<L: LogDevice>(
     ensures own { IfOk result (λ told. is_of kept.by (op_of told) ≡ true) }
     ensures is { IfOk result (λ told. L.honest reader.new.device → (s : AnyRecord) → IsAt reader.old.records kept.place s
         → told ≡ s) }
-    ensures err { IfErr result (λ e. NotReadFor L.LogDevice e reader.old.device reader.new.device) }
+    ensures err { IfErr result (λ e. NotReadFor L.LogDevice e lsn reader.old.device reader.new.device) }
     ensures cause { OnOk result (L.faults reader.new.device ≡ L.faults reader.old.device) }
     ensures same { reader.new ≡ record reader.old { device = reader.new.device } }
     ensures read { IsRead L.LogDevice reader.old.device reader.new.device }

@@ -100,6 +100,7 @@ fn make<P: PageDevice + Drop, B: Level>(
     ensures planner { planner.new ≡ planner.old }
     ensures sizes { pages.new.sizes ≡ pages.old.sizes }
     ensures device { pages.new.device ≡ pages.old.device }
+    ensures frames { pages.new.frames ≡ pages.old.frames }
 {
     if !may_redo(pages, lsn, undo) {
         return false;
@@ -122,6 +123,7 @@ fn make_write<P: PageDevice + Drop, B: Level>(
     ensures planner { planner.new ≡ planner.old }
     ensures sizes { pages.new.sizes ≡ pages.old.sizes }
     ensures device { pages.new.device ≡ pages.old.device }
+    ensures frames { pages.new.frames ≡ pages.old.frames }
 {
     let at = match undo {
         Record::PageOp { page, slot, .. } => Addr::new(*page, *slot),

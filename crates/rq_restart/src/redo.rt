@@ -75,6 +75,7 @@ pub(crate) fn repeat_history<P: PageDevice + Drop, L: LogDevice, B: Level>(
     ensures first { reader.new.first ≡ reader.old.first }
     ensures sizes { pages.new.sizes ≡ pages.old.sizes }
     ensures device { pages.new.device ≡ pages.old.device }
+    ensures frames { pages.new.frames ≡ pages.old.frames }
 {
     let mut analysis = Analysis::new(alloc);
     reader.shows_read();
@@ -138,6 +139,7 @@ fn check_and_redo<P: PageDevice + Drop, B: Level>(
     ensures err { IfErr result (λ e. NamesNoDevice e) }
     ensures sizes { pages.new.sizes ≡ pages.old.sizes }
     ensures device { pages.new.device ≡ pages.old.device }
+    ensures frames { pages.new.frames ≡ pages.old.frames }
 {
     let reads = can_be_read(levels, record);
     if !analysis.may_take(reads, puts_back, record) || !may_redo(pages, lsn, record) {
@@ -199,6 +201,7 @@ fn apply<P: PageDevice + Drop, B: Level>(
     ensures marked { Marks (told_by «record».now) lsn (paged pages.old) pages.new.changed }
     ensures sizes { pages.new.sizes ≡ pages.old.sizes }
     ensures device { pages.new.device ≡ pages.old.device }
+    ensures frames { pages.new.frames ≡ pages.old.frames }
 {
     let at = match record {
         Record::PageOp { page, slot, .. } => Addr::new(*page, *slot),

@@ -33,7 +33,7 @@ use rq_level::Level;
 use rq_log::{Log, LogReader};
 use rq_model::limits::LOG_LIMIT;
 use rq_model::record::Record;
-use rq_model::refusal::{Damage, NoMemory, Refusal};
+use rq_model::refusal::{Damage, Refusal};
 use rq_planner::{Planner, StoreLevels};
 use rq_pool::Pages;
 use rq_record::{shows_fits, spelled_len};
@@ -192,6 +192,7 @@ fn read_and_redo<P: PageDevice + Drop, L: LogDevice + Drop, B: Level>(
         × IsRead L.LogDevice log stopped.device) }
     ensures sizes { pages.new.sizes ≡ pages.old.sizes }
     ensures device { pages.new.device ≡ pages.old.device }
+    ensures frames { pages.new.frames ≡ pages.old.frames }
 {
     let numbers = match PageNumbers::of_pages(alloc, pages) {
         Ok(numbers) => numbers,
@@ -239,6 +240,7 @@ fn finish_restart<P: PageDevice + Drop, L: LogDevice + Drop, B: Level>(
     ensures sizes { pages.new.sizes ≡ pages.old.sizes }
     ensures pool { OnOk result (IsPool pages.new.sizes pages.new.images) }
     ensures pages { pages.new.device ≡ pages.old.device }
+    ensures frames { pages.new.frames ≡ pages.old.frames }
     // What was checked, or why it was refused.
     ensures checked { OnOk result (L.honest log.new.device → (first : Paged)
         → Repeats pages.old.sizes log.old.records first (paged pages.old)
@@ -263,7 +265,7 @@ fn finish_restart<P: PageDevice + Drop, L: LogDevice + Drop, B: Level>(
     };
     let tables = match read_slots(alloc, pages, planner) {
         Ok(tables) => tables,
-        Err(NoMemory) => return Err(Refusal::NoMemory),
+        Err(refusal) => return Err(refusal),
     };
     match begin_incarnation(log, analysis.open_work.incarnation(), unfinished, lost) {
         Ok(report) => Ok((tables, report)),

@@ -3,7 +3,7 @@ use Rattle.rq_model.specs.declared.record.Record.{Record}
 use Rattle.rq_views.specs.Stored.{slots_in}
 use Rattle.rq_level.specs.Asked.{deed_back}
 use Rattle.rq_pool.proofs.Fetched.{framed_reads}
-use Rattle.rq_planner.specs.Answered.{IsPlannedAlone, KnowsCells}
+use Rattle.rq_planner.specs.Answered.{IsPlannedAlone}
 use Rattle.rq_planner.specs.Backs.{IsRefusedBack, IsTakingBack}
 use Rattle.rq_restart.specs.Aborting.{PlanStops}
 use Rattle.rq_restart.proofs.Planning.{why_not_planned}

@@ -95,7 +95,7 @@ returns-in_err-due-clause-stops g c =
     let e = c.in_err-due.field-0.0 in
     let read = c.due_again.ensures.read in
     let h : l.honest c.due_again.new.log.device → AbortingStops z first start e = λ k.
-    aborted_stops z first log start old (kept.gone (read.honest k)) e (told_stops z log old c.loop-txn.analysis kept.found l c.loop-txn.log.device c.due_again.new.log.device e c.in_err-due.ensures.err k) in
+    aborted_stops z first log start old (kept.gone (read.honest k)) e (told_stops z log old c.loop-txn.analysis kept.found l c.loop-txn.log.device c.due_again.new.log.device _ e c.in_err-due.ensures.err k) in
     search (rules, h)
 
 pub returns-in_err-undo_due-clause-stops : goal.returns-in_err-undo_due-clause-stops

@@ -47,7 +47,7 @@ returns-in-Ok-clause-err g c =
     let among = subst (In kept) c.ends.ensures c.in-Ok.ensures.place.0 in
     let same = c.in-Ok.ensures.place.1 in
     let d = c.requires.due in
-    err_told g.L.LogDevice c.args.log.now.device c.kept_record.new.log.device (length log) kept.lsn c.due_as.result d.0 (subst (λ x. IfErr x (λ e. e ≡ why.Damaged (damage.Record kept.lsn))) (sym c.due_as.ensures) (due_named kept c.in-Ok.kept.1))
+    err_told g.L.LogDevice c.args.log.now.device c.kept_record.new.log.device c.args.lsn (length log) kept.lsn same c.due_as.result d.0 (subst (λ x. IfErr x (λ e. e ≡ why.Damaged (damage.Record kept.lsn))) (sym c.due_as.ensures) (due_named kept c.in-Ok.kept.1))
     (λ h. c.due_as.ensures ∙ ap (due_told kept) (c.in-Ok.ensures.is h (end_due d.0) (end_there f log are c.args.txn c.args.lsn d.0 d.1 d.2 d.3 kept among same).1) ∙ due_is f log are c.args.txn c.args.lsn d.0 d.1 d.2 d.3 kept among same)
     c.in-Ok.ensures.cause
 

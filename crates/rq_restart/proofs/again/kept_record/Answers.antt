@@ -12,7 +12,7 @@ pub returns-else-is_of-clause-err : goal.returns-else-is_of-clause-err
 returns-else-is_of-clause-err g c =
     let some = c.in-Some.ensures.some in
     let at = c.requires.has.stands c.in-Some.kept some.0 some.1 in
-    (c.in-Ok.ensures.cause, λ honest. not_own c.in-Some.kept.by c.in-Ok.told at.0 (sym c.is_of.ensures.own ∙ c.if-is_of.false) (c.in-Ok.ensures.is honest at.0 at.1) at.2)
+    (refl, c.in-Ok.ensures.cause, λ honest. not_own c.in-Some.kept.by c.in-Ok.told at.0 (sym c.is_of.ensures.own ∙ c.if-is_of.false) (c.in-Ok.ensures.is honest at.0 at.1) at.2)
 
 pub returns-in-None-clause-err : goal.returns-in-None-clause-err
-returns-in-None-clause-err g c = (refl, λ h. c.requires.has.kept c.in-None.ensures.none)
+returns-in-None-clause-err g c = (refl, refl, λ h. c.requires.has.kept c.in-None.ensures.none)

@@ -19,3 +19,6 @@ returns-in-Void-clause-own g c = rw c.in-Void.is c.void_record.ensures
 
 pub returns-in-Write-clause-own : goal.returns-in-Write-clause-own
 returns-in-Write-clause-own g c = rw c.in-Write.is c.undo_write.ensures.own
+
+pub returns-in-Write-clause-err : goal.returns-in-Write-clause-err
+returns-in-Write-clause-err g c = rw c.in-Write.is c.undo_write.ensures.err

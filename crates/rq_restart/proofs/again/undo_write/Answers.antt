@@ -41,13 +41,13 @@ returns-in-Ok-clause-err g c =
     let kept = c.in-Ok.kept.0 in
     let among = subst (In kept) c.writes.ensures c.in-Ok.ensures.place.0 in
     let same = c.in-Ok.ensures.place.1 in
-    err_of g.L.LogDevice c.args.log.now.device c.kept_record.new.log.device (length log) c.undone_as.result (undo_told kept c.in-Ok.kept.1) c.undone_as.ensures.err c.in-Ok.ensures.room c.in-Ok.ensures.cause
-    (err_told g.L.LogDevice c.args.log.now.device c.kept_record.new.log.device (length log) kept.lsn (undo_told kept c.in-Ok.kept.1) (undo_of next.0) (write_named f log are c.args.lsn next kept among same c.in-Ok.kept.1)
+    err_of g.L.LogDevice c.args.log.now.device c.kept_record.new.log.device c.args.lsn (length log) c.undone_as.result (undo_told kept c.in-Ok.kept.1) c.undone_as.ensures.err c.in-Ok.ensures.room c.in-Ok.ensures.cause
+    (err_told g.L.LogDevice c.args.log.now.device c.kept_record.new.log.device c.args.lsn (length log) kept.lsn same (undo_told kept c.in-Ok.kept.1) (undo_of next.0) (write_named f log are c.args.lsn next kept among same c.in-Ok.kept.1)
     (λ h. ap (undo_told kept) (c.in-Ok.ensures.is h (told f log are c.args.lsn next kept among same) (write_at f log are c.args.lsn next kept among same)) ∙ write_told f log are c.args.lsn next kept among same c.shows_kept.ensures.log.spelled)
     c.in-Ok.ensures.cause)
 
 pub returns-in-Err-clause-err : goal.returns-in-Err-clause-err
-returns-in-Err-clause-err g c = not_undone g.L.LogDevice c.args.log.now.device c.kept_record.new.log.device (length c.args.log.now.records) c.in-Err.refusal c.in-Err.ensures.err
+returns-in-Err-clause-err g c = not_undone g.L.LogDevice c.args.log.now.device c.kept_record.new.log.device c.args.lsn (length c.args.log.now.records) c.in-Err.refusal c.in-Err.ensures.err
 
 pub returns-in-Ok-clause-own : goal.returns-in-Ok-clause-own
 returns-in-Ok-clause-own g c = told_own c.undone_as.result undo_told c.in-Ok.kept.0 c.in-Ok.kept.1 c.args.analysis.now.places.writes c.args.lsn (subst (In c.in-Ok.kept.0) c.writes.ensures c.in-Ok.ensures.place.0) c.in-Ok.ensures.place.1 c.in-Ok.ensures.own c.undone_as.ensures.told

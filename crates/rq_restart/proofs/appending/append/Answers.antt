@@ -61,6 +61,7 @@ returns-clause-stays g c =
     record {
       sizes = c.make.ensures.sizes;
       pages_device = c.make.ensures.device;
+      frames = c.make.ensures.frames;
       read = subst (IsRead l c.args.log.now.device) (sym device) (still l g.met.L.LogDevice.only_now c.args.log.now.device);
       forced = forced;
       running = c.append.ensures.failed;

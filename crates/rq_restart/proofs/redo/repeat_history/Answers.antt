@@ -58,6 +58,7 @@ loop-analysis-preserved g c =
       counted = looked.cause ∙ c.in_ok-next_into.ensures.cause ∙ so_far.counted;
       sizes = c.check_and_redo.ensures.sizes ∙ so_far.sizes;
       device = c.check_and_redo.ensures.device ∙ so_far.device;
+      frames = c.check_and_redo.ensures.frames ∙ so_far.frames;
     }
 
 pub returns-in-Err-check_and_redo-clause-stopped : goal.returns-in-Err-check_and_redo-clause-stopped
@@ -115,6 +116,7 @@ loop-analysis-preserved-in-Ok g c =
       counted = c.in_ok-next_into.ensures.cause ∙ so_far.counted;
       sizes = so_far.sizes;
       device = so_far.device;
+      frames = so_far.frames;
     }
 
 pub returns-in_err-next_into-clause-stopped : goal.returns-in_err-next_into-clause-stopped

@@ -14,6 +14,7 @@ invariant-loop-analysis g l = record {
   counted : g.L.LogDevice.faults l.reader.device ≡ g.L.LogDevice.faults l.fn.reader.first;
   sizes : l.pages.sizes ≡ l.fn.pages.sizes;
   device : l.pages.device ≡ l.fn.pages.device;
+  frames : l.pages.frames ≡ l.fn.pages.frames;
 }
 
 abbrev pub decreases-loop-analysis : goal.decreases-loop-analysis

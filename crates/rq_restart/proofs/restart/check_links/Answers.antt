@@ -1,4 +1,4 @@
-use Rattle.std.proofs.Common.{◌≡◌, sym, subst}
+use Rattle.std.proofs.Common.{sym, subst}
 use Rattle.rq_model.specs.declared.refusal.Refusal.{Refusal}
 use Rattle.rq_views.specs.Stored.{slots_in}
 use Rattle.rq_chain_check.specs.Links.{AreLinked, IsFault}

@@ -5,7 +5,10 @@ use Rattle.rq_restart.specs.Numbers.{NamesFirst}
 use Rattle.rq_restart.specs.Checked.{WasReadAndRedone}
 use Rattle.rq_restart.specs.Refused.{WhyShut}
 use Rattle.rq_restart.specs.Repeating.{ArePagesCounted, paged}
-use Rattle.rq_restart.specs.Restarting.{AreTold, Reports}
+use Rattle.rq_restart.specs.Restarting.{AreTold, IsRestarted, Reports}
+use Rattle.rq_restart.specs.RolledBack.{HasRepeated}
+use Rattle.rq_pool.specs.Pooled.{Pooled}
+use Rattle.rq_model.specs.declared.refusal.Refusal.{Refusal}
 use Rattle.rq_restart.proofs.Begun.{begins, last_is, not_begun, reports}
 use Rattle.rq_restart.proofs.Repeated.{few_read, repeated_read}
 use Rattle.rq_restart.proofs.Counting.{are_told}
@@ -37,26 +40,29 @@ returns-in-Ok-begin_incarnation-clause-restarted g c =
     let found = c.requires.found.open_work in
     let t = c.in-Ok-begin_incarnation.report in
     let now = c.begin_incarnation.new.log.records in
-    record {
+    let tables = c.in-Ok-read_slots.tables in
+    subst (λ (p : Pooled _). IsRestarted g.L.LogDevice p.sizes p.images c.args.log.now c.begin_incarnation.new.log tables.waiting tables.sent tables.planner t) (sym c.read_slots.ensures.same)
+    (record {
       forced = c.in-Ok-begin_incarnation.ensures.forced.0;
       reports = λ hh e past. subst (λ y. Reports y (rebased e c.args.log.now.records) now t.incarnation t.records t.unfinished t.lost) (sym rollback.stays.sizes)
           (reports c.args.log.now.records c.undo_all.new.log.records (rollback.rolls_back (c.begin_incarnation.ensures.honest hh)).is c.undo_all.new.analysis.open_work rollback.found.open_work c.incarnation.result c.incarnation.ensures c.args.pages.now.sizes now
           t.incarnation t.records t.unfinished t.lost
           (told.0, told.1, told.2 ∙ c.unfinished-unfinished.ensures ∙ ap (λ (h : OpenWorkView). length h.unfinished) found, told.3 ∙ rollback.lost ∙ ap (λ (h : OpenWorkView). length h.active) found)
           e past);
-      told = subst (λ n. AreTold z images n c.in-Ok-read_slots.tables.waiting c.in-Ok-read_slots.tables.sent) longer (are_told z images count c.in-Ok-read_slots.tables.waiting c.in-Ok-read_slots.tables.sent c.in-Ok-read_slots.ensures.waiting c.in-Ok-read_slots.ensures.sent counted);
+      told = subst (λ n. AreTold z images n tables.waiting tables.sent) longer (are_told z images count tables.waiting tables.sent c.in-Ok-read_slots.ensures.waiting c.in-Ok-read_slots.ensures.sent counted);
       known = c.in-Ok-read_slots.ensures.known;
       ready = c.in-Ok-begin_incarnation.ensures.ready;
       room = c.in-Ok-begin_incarnation.ensures.room ∙ rollback.room;
       cause = c.in-Ok-begin_incarnation.ensures.cause ∙ rollback.cause;
-    }
+    })
 
 pub returns-in-Ok-begin_incarnation-clause-checked : goal.returns-in-Ok-begin_incarnation-clause-checked
 returns-in-Ok-begin_incarnation-clause-checked g c = λ hh first before k.
     let rollback = c.in-Ok-undo_all.ensures in
     let page_numbers = c.in-Ok.ensures in
     let rolls = rollback.rolls_back (c.begin_incarnation.ensures.honest hh) in
-    record {
+    subst (λ (p : Pooled _). HasRepeated c.args.pages.now.sizes c.args.log.now.records c.begin_incarnation.new.log.records first (paged p)) (sym c.read_slots.ensures.same)
+    (record {
       rolled_back = c.undo_all.new.log.records;
       rolled_back_on = record {
         read_and_redone = (paged c.args.pages.now, gone_through c.args.pages.now.sizes c.args.log.now.records first (paged c.args.pages.now) c.last.result c.args.numbers.now.numbers.items c.last.ensures page_numbers.counted before k);
@@ -67,7 +73,7 @@ returns-in-Ok-begin_incarnation-clause-checked g c = λ hh first before k.
         recovered = rolls.recovered first before;
       };
       begun = begins c.undo_all.new.log.records c.undo_all.new.analysis.open_work rollback.found.open_work c.incarnation.result c.incarnation.ensures c.begin_incarnation.new.log.records c.in-Ok-begin_incarnation.ensures.records;
-    }
+    })
 
 pub returns-in-Ok-begin_incarnation-clause-left : goal.returns-in-Ok-begin_incarnation-clause-left
 returns-in-Ok-begin_incarnation-clause-left g c =
@@ -127,6 +133,20 @@ returns-in-Err-clause-shut g c =
 
 pub returns-in-Err-clause-left : goal.returns-in-Err-clause-left
 returns-in-Err-clause-left g c = left_alone g.L.LogDevice c.args.pages.now.sizes (paged c.args.pages.now) c.args.log.now c.args.log.now (still g.L.LogDevice g.met.L.LogDevice.only_now c.args.log.now.device)
+
+-- memory was wanting
+pub returns-in-Err-read_slots-clause-shut : goal.returns-in-Err-read_slots-clause-shut
+returns-in-Err-read_slots-clause-shut g c =
+    let l = g.L.LogDevice in
+    let was = c.args.log.now.device in
+    let now = c.undo_all.new.log.device in
+    let rollback = c.in-Ok-undo_all.ensures in
+    λ hh first before k. subst (λ (e : Refusal). WhyShut c.args.pages.now.sizes c.args.log.now.records first e (l.faults was) (l.faults now) (IsRead l was now)) (sym c.in-Err-read_slots.ensures.err) (rollback.cause, rollback.stays.read)
+
+pub returns-in-Err-read_slots-clause-fails : goal.returns-in-Err-read_slots-clause-fails
+returns-in-Err-read_slots-clause-fails g c =
+    let faults = g.L.LogDevice.faults in
+    subst (λ (e : Refusal). FailsWith e (faults c.args.log.now.device) (faults c.undo_all.new.log.device)) (sym c.in-Err-read_slots.ensures.err) c.in-Ok-undo_all.ensures.cause
 
 pub returns-in-Err-read_slots-clause-left : goal.returns-in-Err-read_slots-clause-left
 returns-in-Err-read_slots-clause-left g c = left_alone g.L.LogDevice c.args.pages.now.sizes (paged c.args.pages.now) c.args.log.now c.undo_all.new.log c.undo_all.ensures.stays.read

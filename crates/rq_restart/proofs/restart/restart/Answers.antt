@@ -1,4 +1,5 @@
-use Rattle.std.proofs.Common.{◌⊎◌, inl, refl}
+use Rattle.std.proofs.Common.{◌⊎◌, inl, refl, subst, List}
+use Rattle.rq_pool.specs.Held.{Held, IsFixed}
 use Rattle.rq_log.proofs.Moments.{started}
 use Rattle.rq_restart.specs.Restarting.{IsBegunFrom}
 use Rattle.rq_restart.proofs.Opens.{opens, refuses}
@@ -46,3 +47,6 @@ returns-in-Err-clause-left g c =
     let new = c.in-Err.stopped.device in
     keeps_stores P L g.met.P.PageDevice.only_now g.met.P.PageDevice.seen_may_be g.met.L.LogDevice.seen_may_be_left g.met.L.LogDevice.counts_now c.args.pages new c.args.log c.args.log c.in-Err.ensures.device
     (λ h. started L c.args.log (λ bytes. L.may_leave c.args.log bytes ⊎ IsBegunFrom P L c.args.pages c.args.log new bytes) (λ bytes left. inl (g.met.L.LogDevice.only_now c.args.log bytes left)))
+
+pub open-engine-requires-clause-loose : goal.open-engine-requires-clause-loose
+open-engine-requires-clause-loose g c = λ q low fixed. c.in-Ok.ensures.loose q low (subst (λ (f : List Held). IsFixed f q) c.in-Ok-restart_log.ensures.opened.frames fixed)

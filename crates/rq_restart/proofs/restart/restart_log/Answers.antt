@@ -24,6 +24,7 @@ returns-in-Ok-finish_restart-clause-opened g c =
     record {
       sizes = c.finish_restart.ensures.sizes ∙ sizes;
       device = c.finish_restart.ensures.pages ∙ c.read_and_redo.ensures.device;
+      frames = c.finish_restart.ensures.frames ∙ c.read_and_redo.ensures.frames;
       pool = went.pool;
       cells_used = c.used_cells-cells.ensures;
       read = log;

@@ -1,9 +1,14 @@
-use Rattle.std.proofs.Common.{◌+◌}
+use Rattle.std.proofs.Common.{◌≡◌, ◌+◌}
+use Rattle.rq_pool.specs.Fetching.{MayHaveRead}
 use Rattle.rq_restart.specs.Tables.{AreSentTo}
+use Rattle.rq_restart.proofs.Tabled.{IsNextAtHand}
 use Rattle.rq_restart.proofs.tables.read_clients.Given as goal
 
 -- the senders and the clients so far are told of
 abbrev pub invariant-loop-client : goal.invariant-loop-client
 invariant-loop-client g l = record {
-  sent : AreSentTo l.fn.pages.sizes l.fn.pages.images (l.fn.senders + l.client) l.sent;
+  read : MayHaveRead g.P.PageDevice l.fn.pages l.pages;
+  counted : g.P.PageDevice.faults l.pages.device ≡ g.P.PageDevice.faults l.fn.pages.device;
+  hand : IsNextAtHand l.fn.pages.sizes l.pages (l.fn.senders + l.client);
+  sent : AreSentTo l.fn.pages.sizes l.pages.images (l.fn.senders + l.client) l.sent;
 }

@@ -1,9 +1,15 @@
+use Rattle.std.proofs.Common.{◌≡◌}
+use Rattle.rq_pool.specs.Fetching.{MayHaveRead}
 use Rattle.rq_restart.specs.Tables.{AreSentTo, AreWaitingTo}
+use Rattle.rq_restart.proofs.Tabled.{IsNextAtHand}
 use Rattle.rq_restart.proofs.tables.read_directory.Given as goal
 
 -- the senders so far are told of
 abbrev pub invariant-loop-sender : goal.invariant-loop-sender
 invariant-loop-sender g l = record {
-  waiting : AreWaitingTo l.fn.pages.sizes l.fn.pages.images l.sender l.waiting;
-  sent : AreSentTo l.fn.pages.sizes l.fn.pages.images l.sender l.sent;
+  read : MayHaveRead g.P.PageDevice l.fn.pages l.pages;
+  counted : g.P.PageDevice.faults l.pages.device ≡ g.P.PageDevice.faults l.fn.pages.device;
+  hand : IsNextAtHand l.fn.pages.sizes l.pages l.sender;
+  waiting : AreWaitingTo l.fn.pages.sizes l.pages.images l.sender l.waiting;
+  sent : AreSentTo l.fn.pages.sizes l.pages.images l.sender l.sent;
 }

@@ -1,5 +1,4 @@
-use Rattle.std.proofs.Common.{Result, Err, OnErr, OnOk, subst, ap, sym}
-use Rattle.rq_model.specs.declared.refusal.Refusal.{Refusal}
+use Rattle.std.proofs.Common.{OnOk, subst}
 use Rattle.rq_pool.specs.Pooled.{Pooled}
 use Rattle.rq_planner.specs.Answered.{KnowsCells}
 use Rattle.rq_pool.proofs.Fetched.{framed_reads}
