@@ -9,10 +9,10 @@ ghost use Rattle.rq_page.specs.Slots.{Sender};
 ghost use Rattle.rq_views.specs.Chain.{Node};
 ghost use Rattle.rq_views.specs.Log.{cells_of};
 ghost use Rattle.rq_views.specs.Stored.{slots_in};
-ghost use Rattle.rq_pool.specs.Fetching.{HasReadFor, IsReadAsStored, ReadsTruly};
+ghost use Rattle.rq_pool.specs.Fetching.{HasReadFor, IsReadAsStored, IsUnread, ReadsTruly};
 ghost use Rattle.rq_chain_check.specs.Follows.{AreFollowed, EndsSo, IsFollowed, IsLinkedCell, IsNextFree};
 ghost use Rattle.rq_chain_check.specs.Links.{AreLinked, IsChain, IsFault, IsFirstBroken, IsFirstUnmet};
-ghost use Rattle.rq_chain_check.specs.Stops.{ChecksNot, IsNotRead};
+ghost use Rattle.rq_chain_check.specs.Stops.{ChecksNot};
 ghost use Rattle.rq_chain_check.specs.Theorems.{FaultsAreExact, SoundStoresAreLinked};
 
 use rq_bitset::Index;
@@ -70,7 +70,7 @@ fn first_unlinked<P: PageDevice>(
     ensures broken { IsReadAsStored P.PageDevice pages.old pages.new → IfOk result (λ broken. IfSome broken
         (λ page. IsFirstBroken pages.old.sizes (slots_in pages.old.sizes pages.old.images) page)) }
     ensures named { IfOk result (λ broken. IfSome broken (λ page. page < page_count pages.old.sizes)) }
-    ensures refused { IfErr result (λ e. IsNotRead P.PageDevice pages.old e pages.new) }
+    ensures refused { IfErr result (λ e. IsUnread P.PageDevice pages.old e pages.new) }
     ensures read { HasReadFor P.PageDevice pages.old result pages.new }
 {
     for sender in 0..pages.layout().senders() {
@@ -99,7 +99,7 @@ fn follow<P: PageDevice>(
     ensures broken { IsReadAsStored P.PageDevice pages.old pages.new → IfOk result (λ whole. OnFalse whole
         ((nodes : List Node) → IsChain (slots_in pages.old.sizes pages.old.images) sender nodes → ⊥)) }
     ensures same { length met.new ≡ length met.old }
-    ensures refused { IfErr result (λ e. IsNotRead P.PageDevice pages.old e pages.new) }
+    ensures refused { IfErr result (λ e. IsUnread P.PageDevice pages.old e pages.new) }
     ensures read { HasReadFor P.PageDevice pages.old result pages.new }
 {
     match pages.read_group(sender) {
@@ -123,7 +123,7 @@ fn follow_cells<P: PageDevice>(
     ensures broken { IsReadAsStored P.PageDevice pages.old pages.new → IfOk result (λ whole. OnFalse whole
         ((nodes : List Node) → IsChain (slots_in pages.old.sizes pages.old.images) sender nodes → ⊥)) }
     ensures same { length met.new ≡ length met.old }
-    ensures refused { IfErr result (λ e. IsNotRead P.PageDevice pages.old e pages.new) }
+    ensures refused { IfErr result (λ e. IsUnread P.PageDevice pages.old e pages.new) }
     ensures read { HasReadFor P.PageDevice pages.old result pages.new }
 {
     let layout = pages.layout();
@@ -165,7 +165,7 @@ fn linked_cell<P: PageDevice>(
     ensures link { IfOk result (λ found. IfSome found (λ next. IsLink pages.new.sizes next)) }
     ensures none { IfOk result (λ found. IfNone found ((next : ℕ)
         → IsLinkedCell (cells_of (slots_in pages.new.sizes pages.new.images)) sender sequence before at next → ⊥)) }
-    ensures refused { IfErr result (λ e. IsNotRead P.PageDevice pages.old e pages.new) }
+    ensures refused { IfErr result (λ e. IsUnread P.PageDevice pages.old e pages.new) }
     ensures read { HasReadFor P.PageDevice pages.old result pages.new }
 {
     if at.is_none() {

@@ -306,6 +306,23 @@ module _ (s : State) (f : Bool) (o res : ℕ) (k : IsConsistent s f o res) (t : 
         ended = λ q y i j. one_logged s.records x y.lsn (end_of q.txn y) (k.ended q y (gone t s.rows q i).0 j);
       }
 
+-- pages were perhaps read
+pub kept_read : {s : State} {f : Bool} {o res : ℕ} (images : List (List ℕ)) → IsConsistent s f o res → IsConsistent (record s { images = images }) f o res
+kept_read images k = record {
+  incarnation = k.incarnation;
+  low = k.low;
+  fails = k.fails;
+  owes = k.owes;
+  room = k.room;
+  count = k.count;
+  distinct = k.distinct;
+  rows = k.rows;
+  senders = k.senders;
+  few = k.few;
+  sent = k.sent;
+  ended = k.ended;
+}
+
 -- what a device did, and whether it failed, is all that changed
 pub kept_device : (s : State) (f g : Bool) (o res left forced : ℕ) (failed : Bool) (log : List Record) → IsConsistent s f o res → log ≡ s.records → left ≡ res → (failed ≡ false → g ≡ false) → IsConsistent (record s { records = log; forced = forced; failed = failed }) g o left
 kept_device s f g o res left forced failed log k same room fails = record {

@@ -14,14 +14,15 @@ use Rattle.rq_groups.specs.Sides.{with_end}
 use Rattle.rq_page.specs.Sizes.{Sizes, page_count}
 use Rattle.rq_planner.specs.Answered.{IsDeedFor}
 use Rattle.rq_planner.specs.Asked.{Task}
+use Rattle.rq_planner.specs.Lawful.{MayRefuse}
 use Rattle.rq_pool.proofs.Fetched.{read_none, read_then, still_read}
 use Rattle.rq_pool.proofs.KeptUp.{kept_still, kept_then}
-use Rattle.rq_pool.specs.Fetching.{AreAllFramed, MayHaveRead}
+use Rattle.rq_pool.specs.Fetching.{AreAllFramed, HasReadFor, MayHaveRead}
 use Rattle.rq_pool.specs.Pooled.{Pooled}
 use Rattle.rq_store.specs.State.{State}
 use Rattle.rq_txn.specs.Rows.{Row, change_row, row_started}
 use Rattle.rq_engine.specs.Answers.{HasNothingUnderWay}
-use Rattle.rq_engine.specs.KeptUp.{AreButRead, KeepsDevices, KeepsUp, RefusalCounts, RefusedBehind, RefusedButRead, starts_one, with_images_of, HasReadPages, HasReadSoFar, HasTried, StopsStart, AnswerCounts}
+use Rattle.rq_engine.specs.KeptUp.{AreButRead, KeepsDevices, KeepsUp, RefusalCounts, RefusedBehind, RefusedButRead, starts_one, with_images_of, HasReadPages, HasReadSoFar, HasTried, AnswerCounts}
 use Rattle.rq_engine.specs.Lists.{DoesTask, IsStarted}
 use Rattle.rq_engine.specs.Opened.{AreHonest, LeavesDevices, OpenStore, pooled}
 use Rattle.rq_engine.specs.Plans.{Planned, under_plan, is_latched}
@@ -29,7 +30,6 @@ use Rattle.rq_engine.specs.Tested.{tested}
 use Rattle.std.specs.Prelude.{OnErr, OnOk}
 use Rattle.std.proofs.lemmas.Bool.{false≢true}
 use Rattle.rq_groups.specs.Ends.{HeldEnds}
-use Rattle.rq_level.specs.Lawful.{MayHaveNoPlan}
 use Rattle.rq_pool.specs.Held.{Held, IsFramed}
 use Rattle.rq_pool.specs.KeptUp.{IsKeptUp}
 
@@ -87,7 +87,7 @@ module _ {P L : Type 0} (g : page_device.Ghosts P) where
       (kept_then g old.state.forced (pooled old) (pooled mid) (pooled new) (a.pages.kept old.state.forced) (subst (λ (n : ℕ). IsKeptUp g n (pooled mid) (pooled new)) forced b.0), b.1 ∙ a.log, b.2 ∙ a.replacing)
 
   -- and a failure is the first
-  pub counts_then : (old mid new : OpenStore P L) → HasReadSoFar g old mid → (r : Refusal) → StopsStart r → RefusalCounts g r mid new → RefusalCounts g r old new
+  pub counts_then : (old mid new : OpenStore P L) → HasReadSoFar g old mid → (r : Refusal) → MayRefuse r → RefusalCounts g r mid new → RefusalCounts g r old new
   counts_then old mid new a why.NoMemory stops c = c ∙ a.1
   counts_then old mid new a why.Latched stops c = c ∙ a.1
   counts_then old mid new a (why.Damaged d) stops c = c ∙ a.1
@@ -106,7 +106,7 @@ module _ {P L : Type 0} (g : page_device.Ghosts P) where
 
   module _ {X : Type 0} where
     -- what was refused has begun nothing
-    pub tried_refused : (old new : OpenStore P L) (HasBegun : State → Type 0) (r : Refusal) → HasReadPages g old new → RefusalCounts g r old new → StopsStart r → HasTried {X = X} g old HasBegun (Err r) new
+    pub tried_refused : (old new : OpenStore P L) (HasBegun : State → Type 0) (r : Refusal) → HasReadPages g old new → RefusalCounts g r old new → MayRefuse r → HasTried {X = X} g old HasBegun (Err r) new
     tried_refused old new HasBegun r read counts causes = record { devices = read_devices old new read; counts = counts; begun = tt; read = read; causes = causes }
 
     -- What was planned begins, or memory is wanting: it changes rows and ends alone.
@@ -137,18 +137,31 @@ module _ {P L : Type 0} (g : page_device.Ghosts P) where
     pub tried_held : (old new : OpenStore P L) (A : State → Type 0) → HasReadSoFar g old new → HasTried {X = X} g old A (Err why.Latched) new
     tried_held old new A read = tried_refused old new A why.Latched read.0 read.1 tt
 
--- what memory, a latch or damage refuses where nothing was read
-pub counts_still : {P L X : Type 0} (g : page_device.Ghosts P) (old new : OpenStore P L) → new ≡ old → (answer : Result X Refusal) → IfErr answer MayHaveNoPlan → AnswerCounts g answer old new
-counts_still g old new same (Ok x) refused = ap (λ (s : OpenStore _ _). g.faults s.pages) same
-counts_still g old new same (Err why.NoMemory) refused = ap (λ (s : OpenStore _ _). g.faults s.pages) same
-counts_still g old new same (Err why.Latched) refused = ap (λ (s : OpenStore _ _). g.faults s.pages) same
-counts_still g old new same (Err (why.Damaged d)) refused = ap (λ (s : OpenStore _ _). g.faults s.pages) same
-counts_still g old new same (Err _) refused = absurd refused
+-- what a call leaves that has something planned, and nothing else done
+module _ {P L : Type 0} (g : page_device.Ghosts P) (inside old new : OpenStore P L) (is : inside ≡ old) where
+  pub plan_reads : new.state ≡ record inside.state { sizes = new.state.sizes; images = new.state.images } → new.log ≡ inside.log → new.replacing ≡ inside.replacing → MayHaveRead g (pooled inside) (pooled new) → HasReadPages g old new
+  plan_reads rest log replacing read = subst (λ (o : OpenStore P L). HasReadPages g o new) is (record {
+    pages = read;
+    lists = rest ∙ ap (λ (z : Sizes). record inside.state { sizes = z; images = new.state.images }) (read.kept 0).sizes;
+    log = log;
+    replacing = replacing;
+  })
+
+  counts_of : {X : Type 0} (answer : Result X Refusal) → HasReadFor g (pooled inside) answer (pooled new) → IfErr answer MayRefuse → AnswerCounts g answer inside new
+  counts_of (Ok x) read causes = read.counted
+  counts_of (Err why.NoMemory) read causes = read.refused
+  counts_of (Err why.Latched) read causes = read.refused
+  counts_of (Err (why.Damaged d)) read causes = read.refused
+  counts_of (Err why.DiskRead) read causes = read.refused
+  counts_of (Err _) read causes = absurd causes
+
+  pub plan_counts : {X : Type 0} (answer : Result X Refusal) → HasReadFor g (pooled inside) answer (pooled new) → IfErr answer MayRefuse → AnswerCounts g answer old new
+  plan_counts answer read causes = subst (λ (o : OpenStore P L). AnswerCounts g answer o new) is (counts_of answer read causes)
 
 -- it is refused behind its tests
-pub tried_leaves : {P L : Type 0} (old new : OpenStore P L) (c : Call) → starts_one c ≡ true → NoneHolds (tested old.state c) → (r : Refusal) → StopsStart r → AreButRead old.state new.state → RefusedButRead c old r new
+pub tried_leaves : {P L : Type 0} (old new : OpenStore P L) (c : Call) → starts_one c ≡ true → NoneHolds (tested old.state c) → (r : Refusal) → MayRefuse r → AreButRead old.state new.state → RefusedButRead c old r new
 tried_leaves old new c starts passed r causes lists = subst (λ (b : Bool). RefusedBehind b (tested old.state c) old r new) (sym starts) (at (tested old.state c) passed r causes) where
-  at : (tests : List (Bool × Refusal)) → NoneHolds tests → (r : Refusal) → StopsStart r → RefusedBehind true tests old r new
+  at : (tests : List (Bool × Refusal)) → NoneHolds tests → (r : Refusal) → MayRefuse r → RefusedBehind true tests old r new
   at tests passed why.NoMemory causes = (passed, lists)
   at tests passed why.Latched causes = (passed, lists)
   at tests passed why.DiskRead causes = (passed, lists)

@@ -1,5 +1,5 @@
 -- What is latched, exactly: whether a planned send or receive meets others' pages, and what that makes of the call.
-use Rattle.std.proofs.Common.{◌≡◌, ℕ, ◌/◌, ◌<◌, ◌||◌, List, [], ◌∷◌, length, reverse, refl, sym, ◌∙◌, ap, subst, true, false, Option, Some, None, inl, inr, arith}
+use Rattle.std.proofs.Common.{◌≡◌, ℕ, ◌/◌, ◌<◌, ◌||◌, List, [], ◌∷◌, refl, sym, ◌∙◌, ap, subst, true, false, Option, Some, None, inl, inr}
 use Rattle.std.proofs.lemmas.Bool.{cases_Bool, false≢true, or_left, true≢false}
 use Rattle.rq_model.specs.declared.message.Message.{Message}
 use Rattle.rq_model.specs.declared.record.Deed.{Deed}
@@ -9,14 +9,10 @@ use Rattle.rq_model.specs.Legal.{OnFound}
 use Rattle.rq_model.specs.Vocabulary.{last}
 use Rattle.rq_model.specs.History.Call.{Start_close, Start_mark, Start_send, Start_receive, Start_receive_from, Undo_next}
 use Rattle.rq_model.specs.History.Job.{Sending, Taking, Ending, Marking}
-use Rattle.rq_page.specs.Sizes.{cell_count, client_slot_at, directory_at, Sizes}
+use Rattle.rq_page.specs.Sizes.{cell_count, client_slot_at, directory_at}
 use Rattle.rq_views.specs.Plans.{Turn}
 use Rattle.rq_views.specs.Plans.Turn.{Did, Undid}
-use Rattle.rq_level.specs.declared.writes.SlotWrite.{SlotWrite}
-use Rattle.std.proofs.lemmas.List.{length-map, length-reverse}
 use Rattle.std.proofs.Math.Bool.{or-false}
-use Rattle.rq_views.specs.Log.{Write}
-use Rattle.rq_level.specs.Writes.{write_of, writes_of}
 use Rattle.rq_txn.specs.declared.Finished.{Finished}
 use Rattle.rq_txn.specs.Rows.{Row, any_under, found_row, latched_in}
 use Rattle.rq_store.specs.Plans.{WaitsFor}
@@ -226,11 +222,3 @@ module _ (s : State) (k : IsSound s) where
   ]
   undo_busy (Close g) may h = latched_busy s.rows (directory_at g / 16) h
   undo_busy (Mark c tag previous) may h = any_busy s.rows (client_slot_at s.sizes c ∷ []) h
-
--- a plan whose writes are one write has one
-pub one_write : (z : Sizes) (us : List SlotWrite) (w : Write) → reverse (writes_of z us) ≡ w ∷ [] → length us ≡ 1
-one_write z us w is =
-    let a : length (reverse (writes_of z us)) ≡ 1 = ap length is in
-    let b = length-reverse (writes_of z us) in
-    let c : length (writes_of z us) ≡ length us = length-map us (write_of z) in
-    omega (arith, a, b, c)

@@ -1,7 +1,7 @@
 -- What the level plans, as the engine's starts have it.
 use Rattle.std.proofs.Common.{◌≡◌, ◌≢◌, ℕ, ◌+◌, ◌/◌, ◌%◌, ◌<◌, ◌≤◌, cond, nat_eq, nat_lt, List, [], ◌∷◌, length, refl, sym, ◌∙◌, ap, subst, inl, inr, true, false, Option, Some, None, Result, Ok, Err, arith, Bool}
 use Rattle.std.specs.Prelude.{IfErr, OnOk, IfOk}
-use Rattle.std.proofs.lemmas.Bool.{cases_Bool, false_from_ne_true, ltb-true, or_cases, or_left, false≢true, true≢false}
+use Rattle.std.proofs.lemmas.Bool.{cases_Bool, false_from_ne_true, ltb-true, or_cases, false≢true, true≢false}
 use Rattle.rq_model.specs.declared.record.Deed.{Deed}
 use Rattle.rq_model.specs.declared.refusal.Refusal.{Refusal}
 use Rattle.rq_model.specs.declared.refusal.Refusal.TheVariants as why
@@ -28,12 +28,10 @@ use Rattle.rq_views.specs.Stored.{slot_at, slots_in}
 use Rattle.rq_views.proofs.Stands.{page_of_cells}
 use Rattle.rq_views.specs.InStore.{IsDeedOf}
 use Rattle.rq_views.specs.Items.{told_deed}
-use Rattle.rq_views.specs.Log.{Slots}
-use Rattle.rq_views.specs.Plans.Turn.{Did, Undid}
+use Rattle.rq_views.specs.Plans.Turn.{Did}
 use Rattle.rq_groups.specs.declared.End.TheVariants.{Receiving}
 use Rattle.rq_level.specs.ChainPlans.{TellsDamage}
 use Rattle.rq_level.specs.declared.writes.Plan.{Plan}
-use Rattle.rq_level.specs.declared.writes.SlotWrite.{SlotWrite}
 use Rattle.rq_level.specs.Ops.{Tagging, Job}
 use Rattle.rq_level.specs.Ops.Doing.{Send, Receive, Close}
 use Rattle.rq_txn.specs.declared.Aim.TheVariants as aims
@@ -44,23 +42,16 @@ use Rattle.rq_store.specs.State.{State}
 use Rattle.rq_sound.specs.Groups.{slots_now}
 use Rattle.rq_sound.specs.Plans.{IsMarking, IsPlannedFrom, IsReceive, IsSend}
 use Rattle.rq_sound.specs.Sound.{IsSound}
-use Rattle.rq_planner.specs.Answered.{IsDeedFor, IsHeldUp, IsPlanOf, MayBeAsked, RefusesPlan, deed_of, IsWithheld, Wants, IsAnswered, ComesFrom, MayPlan, MayUndo, wants_of, level_back, IsPlanned, IsPlanBack}
-use Rattle.rq_planner.specs.Asked.{Asked, IsTaskOf, Task, task_level}
-use Rattle.rq_planner.specs.Asked.Asked.{Do, Undo}
+use Rattle.rq_planner.specs.Answered.{IsDeedFor, IsHeldUp, IsPlanOf, MayBeAsked, RefusesPlan, deed_of}
+use Rattle.rq_planner.specs.Asked.{Asked, IsTaskOf, Task, task_by, task_level}
+use Rattle.rq_planner.specs.Asked.Asked.{Do}
 use Rattle.rq_planner.specs.Asked.Task.{Chain, Tag}
-use Rattle.rq_planner.specs.Lawful.{IsLawfulPlan, IsLawfulInverse}
+use Rattle.rq_planner.specs.Lawful.{IsByOwnLatch, IsExactlyLatched, IsLawfulFor, IsLawfulPlan, MayRefuse, most_writes, most_writes_back}
 use Rattle.rq_engine.specs.Closes.{IsClosePlan, close_latched}
 use Rattle.rq_engine.specs.Marks.{IsMarkPlan, mark_latched}
 use Rattle.rq_engine.specs.Earlier.{IsEarlier, on}
-use Rattle.rq_engine.specs.Plans.{AreHeldUp, ComesOf, HasStarted, IsDeedPlan, IsStartOf, IsTakeOf, IsWithin, Planned, is_latch, is_latched, known_part, planned_of, records_of, under_plan, LevelsAnswer, to_job, to_undo, IsByLatches, IsOwnPlan}
+use Rattle.rq_engine.specs.Plans.{AreHeldUp, ComesOf, HasStarted, IsDeedPlan, IsStartOf, IsTakeOf, IsWithin, Planned, is_latch, is_latched, known_part, planned_of, records_of, under_plan, IsByLatches, IsLatchedBy, IsOwnPlan}
 use Rattle.rq_engine.specs.Sends.{take_latched}
-use Rattle.rq_engine.proofs.Latches.{one_write}
-use Rattle.rq_level.specs.Lawful.{MayHaveNoPlan}
-use Rattle.rq_level.specs.Asked.{job_back}
-use Rattle.rq_level.specs.Meaning.{kept_at, meaning_of}
-use Rattle.rq_level.specs.declared.slots.Given.{Given}
-use Rattle.rq_level.proofs.EachLevel.{all_lawful}
-use Rattle.rq_engine.specs.KeptUp.{StopsStart}
 use Rattle.rq_engine.specs.Applied.{OnLatched}
 
 -- it is of the store
@@ -111,44 +102,6 @@ module _ (d : Task) (p : Plan) (level : ℕ) (of_level : level ≡ task_level d)
     reads = tells_itself level p.deed lawful.told;
   }
 
--- ---- what levels answer
-
--- for memory, a latch or damage alone
-withheld : (s : State) (a : ℕ) (r : Refusal) → IsWithheld s a r → MayHaveNoPlan r
-withheld s a why.NoMemory h = tt
-withheld s a why.Latched h = tt
-withheld s a (why.Damaged d) h = tt
-withheld s a _ h = absurd h
-
-level_refuses : (s : State) (want : Wants) (job : Job) (May : List Given → Result Plan Refusal → Type 0) → ((given : List Given) (r : Refusal) → May given (Err r) → MayHaveNoPlan r) → (answer : Result Plan Refusal) → IsAnswered s want job May answer → IfErr answer MayHaveNoPlan
-level_refuses s want job May law (Ok p) h = tt
-level_refuses s want job May law (Err r) h = at (want job h.given) h.comes where
-  at : (o : Option ℕ) → ComesFrom s o (May h.given) (Err r) → MayHaveNoPlan r
-  at (Some a) c = withheld s a r c
-  at None c = elim c [
-    | inl may ↦ law h.given r may
-    | inr memory ↦ let is : r ≡ why.NoMemory = cc in subst MayHaveNoPlan (sym is) tt
-  ]
-
-pub job_refused : (s : State) (job : Job) (answer : Result Plan Refusal) → LevelsAnswer s (to_job job) answer → IfErr answer MayHaveNoPlan
-job_refused s job answer h =
-    level_refuses (known_part s) (wants_of h.levels job.level) job (MayPlan (known_part s) (meaning_of job.level) (kept_at h.levels job.level) job)
-    (λ given r may. ((all_lawful job.level).refuses (kept_at h.levels job.level) job given may.latched r may.after may.plans).0) answer h.answered
-
-pub back_refused : (s : State) (told : Record) (answer : Result Plan Refusal) → LevelsAnswer s (to_undo told) answer → IfErr answer MayHaveNoPlan
-back_refused s told answer h =
-    let n = level_back told in
-    level_refuses (known_part s) (wants_of h.levels n) (job_back told) (MayUndo (known_part s) (meaning_of n) (kept_at h.levels n) told)
-    (λ given r may. ((all_lawful n).refuses_undo (kept_at h.levels n) told given may.latched r may.after may.undoes).0) answer h.answered
-
--- so a start is
-pub stops_start : {X : Type 0} (answer : Result X Refusal) → IfErr answer MayHaveNoPlan → IfErr answer StopsStart
-stops_start (Ok p) h = tt
-stops_start (Err why.NoMemory) h = tt
-stops_start (Err why.Latched) h = tt
-stops_start (Err (why.Damaged d)) h = tt
-stops_start (Err _) h = absurd h
-
 -- ---- what a start answers
 
 -- a start that a sound store may do is refused for memory, or for latches
@@ -158,8 +111,8 @@ refused_for P IsHeld why.Latched causes sound memory held = held causes
 refused_for P IsHeld (why.Damaged x) causes sound memory held = absurd (sound tt)
 refused_for P IsHeld _ causes sound memory held = absurd causes
 
-pub never_failed : (r : Refusal) → StopsStart r → r ≢ why.Failed
-never_failed r causes e = subst StopsStart e causes
+pub never_failed : (r : Refusal) → MayRefuse r → r ≢ why.Failed
+never_failed r causes e = subst MayRefuse e causes
 
 pub plain_memory : {X : Type 0} (answer : Result X Refusal) → IfErr answer (λ r. r ≡ why.NoMemory) → IfErr answer (λ r. r ≢ why.Failed)
 plain_memory (Ok x) h = tt
@@ -333,19 +286,9 @@ take_plan s g n plan below h = at plan.deed refl h.asked h.planned where
 pub close_held : (s : State) (g : ℕ) → IsHeldUp (known_part s) (Do (Chain (Close g))) → close_latched s g ≡ true
 close_held s g h = elim (or_cases (latched_in s.rows (directory_at g / 16)) false h) [ inl y ↦ y | inr n ↦ absurd (true≢false (sym n)) ]
 
-pub close_free : (s : State) (g : ℕ) → (IsHeldUp (known_part s) (Do (Chain (Close g))) → ⊥) → close_latched s g ≡ false
-close_free s g h = false_from_ne_true (close_latched s g) (λ y. h (or_left (latched_in s.rows (directory_at g / 16)) false y))
-
--- it makes one write
-pub close_one : (s : State) (g : ℕ) (plan : Planned) → g < sender_count s.sizes → IsDeedPlan s (Chain (Close g)) plan → length plan.writes ≡ 1
-close_one s g plan below h = one_write _ plan.writes _ (close_plan s g 0 plan below h).marking.writes
-
 -- a mark needs the page of its client's slot
 pub mark_held : (s : State) (t : Tagging) → IsHeldUp (known_part s) (Do (Tag t)) → mark_latched s t.client ≡ true
 mark_held s t h = elim (or_cases (mark_latched s t.client) false h) [ inl y ↦ y | inr n ↦ absurd (true≢false (sym n)) ]
-
-pub mark_free : (s : State) (t : Tagging) → (IsHeldUp (known_part s) (Do (Tag t)) → ⊥) → mark_latched s t.client ≡ false
-mark_free s t h = false_from_ne_true (mark_latched s t.client) (λ y. h (or_left (mark_latched s t.client) false y))
 
 pub mark_plan : (s : State) (t : Tagging) (n : ℕ) (plan : Planned) → t.client < client_count s.sizes → IsDeedPlan s (Tag t) plan → IsMarkPlan s.sizes (slots_now s) (under_plan n plan) t.client t.tag
 mark_plan s t n plan below h = at plan.deed refl h.asked h.planned where
@@ -364,29 +307,24 @@ mark_plan s t n plan below h = at plan.deed refl h.asked h.planned where
   at (UnlinkHead x m tag b) is same p = absurd same
   at (Close_deed x) is same p = absurd same
 
--- it makes one write
-pub mark_one : (s : State) (t : Tagging) (plan : Planned) → t.client < client_count s.sizes → IsDeedPlan s (Tag t) plan → length plan.writes ≡ 1
-mark_one s t plan below h = one_write _ plan.writes _ (mark_plan s t 0 plan below h).tagging.writes
-
 -- no more, with an end, than is counted of the task
-few_planned : (s : State) (d : Task) (plan : Planned) → IsTaskOf s.sizes d → IsDeedPlan s d plan → length plan.writes + 1 ≤ records_of d
-few_planned s (Chain (Send g tag body)) plan below h = (let few = h.count in omega (arith, few))
-few_planned s (Chain (Receive g)) plan below h = (let few = h.count in omega (arith, few))
-few_planned s (Chain (Close g)) plan below h = (let one = close_one s g plan below h in omega (arith, one))
-few_planned s (Tag t) plan below h = (let one = mark_one s t plan below h in omega (arith, one))
+few_planned : (d : Task) (n : ℕ) → n ≤ most_writes d → n + 1 ≤ records_of d
+few_planned (Chain (Send g tag body)) n few = omega (arith, few)
+few_planned (Chain (Receive g)) n few = omega (arith, few)
+few_planned (Chain (Close g)) n few = omega (arith, few)
+few_planned (Tag t) n few = omega (arith, few)
+
+latched_by : (latched : Bool) (answer : Result Plan Refusal) → IsExactlyLatched latched answer → IsLatchedBy latched answer
+latched_by latched (Ok p) h = h
+latched_by latched (Err why.Latched) h = h
+latched_by latched (Err _) h = tt
 
 module _ (s : State) where
-  by_latch : (latched : Bool) (A : Type 0) → (A → latched ≡ true) → (r : Refusal) → RefusesPlan A r → OnLatched (latched ≡ true) r
-  by_latch latched A held why.Latched causes = held causes
-  by_latch latched A held _ causes = tt
-
-  by_latches : (d : Task) (answer : Result Plan Refusal) → IsPlanned (known_part s) (Do d) answer → IsByLatches s d answer
+  by_latches : (d : Task) (answer : Result Plan Refusal) → IsByOwnLatch s.sizes s.rows d answer → IsByLatches s d answer
   by_latches (Chain (Send g tag body)) answer h = tt
   by_latches (Chain (Receive g)) answer h = tt
-  by_latches (Chain (Close g)) (Ok p) h = close_free s g h.free
-  by_latches (Chain (Close g)) (Err r) h = by_latch (close_latched s g) _ (close_held s g) r h.causes
-  by_latches (Tag t) (Ok p) h = mark_free s t h.free
-  by_latches (Tag t) (Err r) h = by_latch (mark_latched s t.client) _ (mark_held s t) r h.causes
+  by_latches (Chain (Close g)) answer h = latched_by (close_latched s g) answer h
+  by_latches (Tag t) answer h = latched_by (mark_latched s t.client) answer h
 
   -- what begins of a plan is refused for want of memory alone
   pub latched_then : {X : Type 0} (d : Task) (p : Plan) (answer : Result X Refusal) → IfErr answer (λ r. r ≡ why.NoMemory) → IsByLatches s d (Ok p) → IsByLatches s d answer
@@ -403,18 +341,14 @@ module _ (s : State) where
   latched_refused X (Chain (Close g)) r h = h
   latched_refused X (Tag t) r h = h
 
-  -- what is so of a plan over the slots as they are
-  pub own_plan : (d : Task) (level : ℕ) → level ≡ task_level d → IsTaskOf s.sizes d → (answer : Result Plan Refusal) → IfOk answer (IsLawfulPlan s.sizes level) → IsPlanned (known_part s) (Do d) answer → IsOwnPlan s d answer
-  own_plan d level of_level inside (Ok p) lawful is = record { asked = is.plan.asked; few = few_planned s d (planned_of level p) inside (deed_plan d p level of_level s is.plan lawful); latched = by_latches d (Ok p) is }
-  own_plan d level of_level inside (Err r) lawful is = record { asked = tt; few = tt; latched = by_latches d (Err r) is }
+  -- what is so of a plan whatever slots its level was given
+  pub own_plan : (d : Task) (job : Job) → task_by job.level job.bytes ≡ Some d → (answer : Result Plan Refusal) → IfOk answer (IsLawfulFor s.sizes job) → IsByOwnLatch s.sizes s.rows d answer → IsOwnPlan s d answer
+  own_plan d job told (Ok p) lawful latched = record { asked = lawful.asked d told; few = few_planned d (length p.writes.items) (lawful.few d told); latched = by_latches d (Ok p) latched }
+  own_plan d job told (Err r) lawful latched = record { asked = tt; few = tt; latched = by_latches d (Err r) latched }
 
 -- no more, with an end, than an inverse is counted as
-few_writes : (z : Sizes) (q : Slots) (us : List SlotWrite) (d : Deed) → length us ≤ 3 → IsPlannedFrom z q us (Undid d) → length us + 1 ≤ undo_cost (Some (op_of (said d)))
-few_writes z q us (Append g n tag previous body) few p = omega (arith, few)
-few_writes z q us (UnlinkHead g n tag body) few p = omega (arith, few)
-few_writes z q us (Close_deed g) few p = let one = one_write z us _ p.writes in omega (arith, one)
-few_writes z q us (Mark c tag previous) few p = let one = one_write z us _ p.writes in omega (arith, one)
-
-pub few_back : (s : State) (d : Deed) (answer : Result Plan Refusal) → IfOk answer (IsLawfulInverse s.sizes) → IsPlanned (known_part s) (Undo d) answer → IfOk answer (λ p. length p.writes.items + 1 ≤ undo_cost (Some (op_of (said d))))
-few_back s d (Err r) lawful is = tt
-few_back s d (Ok p) lawful is = let plan : IsPlanBack (known_part s) d p = is.plan in few_writes s.sizes (slots_now s) p.writes.items d lawful.count plan.follows.0
+pub few_back : (d : Deed) (n : ℕ) → n ≤ most_writes_back d → n + 1 ≤ undo_cost (Some (op_of (said d)))
+few_back (Append g n tag previous body) k few = omega (arith, few)
+few_back (UnlinkHead g n tag body) k few = omega (arith, few)
+few_back (Close_deed g) k few = omega (arith, few)
+few_back (Mark c tag previous) k few = omega (arith, few)

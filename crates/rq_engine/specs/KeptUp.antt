@@ -11,6 +11,7 @@ use Rattle.rq_pool.specs.KeptUp.{IsForced, IsKeptUp}
 use Rattle.rq_pool.specs.Fetching.{HasFailed, HasOutside, MayHaveRead}
 use Rattle.rq_pool.specs.Reading.{OnlyRead}
 use Rattle.rq_store.specs.State.{State}
+use Rattle.rq_planner.specs.Lawful.{MayRefuse}
 use Rattle.rq_engine.specs.Opened.{OpenStore, pooled}
 use Rattle.rq_engine.specs.Tested.{tested}
 use Rattle.rq_engine.specs.declared.event.Reply.{Reply}
@@ -93,14 +94,6 @@ pub record HasReadPages {P L : Type 0} (g : page_device.Ghosts P) (old new : Ope
 abbrev pub HasReadSoFar : {P L : Type 0} → page_device.Ghosts P → OpenStore P L → OpenStore P L → Type 0
 HasReadSoFar g old new = HasReadPages g old new × (g.faults new.pages ≡ g.faults old.pages)
 
--- why a start is refused that passed its tests
-abbrev pub StopsStart : Refusal → Type 0
-StopsStart why.NoMemory = Unit {0}
-StopsStart why.Latched = Unit {0}
-StopsStart why.DiskRead = Unit {0}
-StopsStart (why.Damaged d) = Unit {0}
-StopsStart _ = ⊥
-
 -- What a start that passed its tests answers and leaves, whatever the device gave of pages that it read. HasBegun is so of the lists,
 -- but for images of those pages, where something has begun.
 pub record HasTried {P L X : Type 0} (g : page_device.Ghosts P) (old : OpenStore P L) (HasBegun : State → Type 0)
@@ -109,7 +102,7 @@ pub record HasTried {P L X : Type 0} (g : page_device.Ghosts P) (old : OpenStore
   pub counts : AnswerCounts g answer old new
   pub begun : IfOk answer (λ _. HasBegun (with_images_of old.state new.state))
   pub read : OnErr answer (HasReadPages g old new)
-  pub causes : IfErr answer StopsStart
+  pub causes : IfErr answer MayRefuse
 
 -- And its lists are as they were, and no device failed. Where the call starts nothing, pages were only read and count as changed as
 -- before, and where it reads none, all is as it was.

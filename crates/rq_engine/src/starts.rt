@@ -6,11 +6,11 @@ ghost use Rattle.rq_txn.specs.Rows.{change_row, row_started, under_of};
 ghost use Rattle.rq_groups.specs.Sides.{is_free_end};
 ghost use Rattle.rq_planner.specs.Answered.{IsPlanned};
 ghost use Rattle.rq_planner.specs.Asked.{Do, IsTaskOf, Task, task_by};
-ghost use Rattle.rq_planner.specs.Lawful.{IsLawfulPlan};
+ghost use Rattle.rq_planner.specs.Lawful.{IsLawfulPlan, MayRefuse};
 ghost use Rattle.rq_engine.specs.Opened.{LeavesDevices};
 ghost use Rattle.rq_engine.specs.Answers.{HasNothingUnderWay};
 ghost use Rattle.rq_engine.specs.Invariant.{end_bytes};
-ghost use Rattle.rq_engine.specs.KeptUp.{AnswerCounts, HasReadPages, HasTried, StopsStart};
+ghost use Rattle.rq_engine.specs.KeptUp.{AnswerCounts, HasReadPages, HasTried};
 ghost use Rattle.rq_engine.specs.Plans.{BeginsAsPlanned, HasBegun, HasStarted, IsByLatches, IsOwnPlan, IsStartOf, IsToStart, LevelsAnswer, is_latched, known_part, planned_of, started_with, to_job};
 ghost use Rattle.rq_engine.specs.Sends.{FitsUnder, HasRoom};
 
@@ -60,10 +60,9 @@ impl<P: PageDevice, L: LogDevice, B: Level> Engine<P, L, B> {
         // Whatever the device gave of pages that are read.
         ensures read { HasReadPages P.PageDevice self.old self.new }
         ensures counts { AnswerCounts P.PageDevice result self.old self.new }
-        ensures causes { IfErr result StopsStart }
+        ensures causes { IfErr result MayRefuse }
         ensures lawful { IfOk result (IsLawfulPlan self.old.state.sizes op.now.level) }
-        ensures own { (d : Task) → task_by op.now.level op.now.bytes ≡ Some d → IsTaskOf self.old.state.sizes d
-            → IsOwnPlan self.old.state d result }
+        ensures own { (d : Task) → task_by op.now.level op.now.bytes ≡ Some d → IsOwnPlan self.old.state d result }
         // Of an honest one.
         ensures answered { P.honest self.new.pages → LevelsAnswer self.old.state (to_job op.now) result }
         ensures planned { P.honest self.new.pages → (d : Task) → task_by op.now.level op.now.bytes ≡ Some d

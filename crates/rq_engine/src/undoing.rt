@@ -8,7 +8,7 @@ ghost use Rattle.rq_engine.specs.Earlier.{on, IsEarlier};
 ghost use Rattle.rq_model.specs.declared.record.Record.{Record as AnyRecord};
 ghost use Rattle.rq_model.specs.Commits.{op_of};
 ghost use Rattle.rq_model.specs.Content.{said};
-ghost use Rattle.rq_engine.specs.KeptUp.{AnswerCounts, HasReadPages, HasTried, KeepsDevices, RefusedButRead, StopsStart};
+ghost use Rattle.rq_engine.specs.KeptUp.{AnswerCounts, HasReadPages, HasTried, KeepsDevices, RefusedButRead};
 ghost use Rattle.rq_engine.specs.Answers.{AnswersLegally};
 ghost use Rattle.rq_engine.specs.Applied.{TakesUnlatched};
 ghost use Rattle.rq_engine.specs.Invariant.{IsDoneConsistent, IsLogged, end_of};
@@ -18,7 +18,7 @@ ghost use Rattle.rq_store.specs.State.{ledger_of, op_done};
 ghost use Rattle.rq_model.specs.Vocabulary.{is_some};
 ghost use Rattle.rq_planner.specs.Answered.{IsPlanned};
 ghost use Rattle.rq_planner.specs.Asked.{Undo};
-ghost use Rattle.rq_planner.specs.Lawful.{IsLawfulInverse};
+ghost use Rattle.rq_planner.specs.Lawful.{IsLawfulInverse, MayRefuse};
 ghost use Rattle.rq_model.specs.declared.record.Deed.{Deed};
 ghost use Rattle.rq_views.specs.InStore.{IsDeedOf};
 ghost use Rattle.rq_engine.specs.Plans.{BeginsAsPlanned, HasBegunBack, HasTurnedBack, IsStartOf, LevelsAnswer, known_part, to_undo, turned_back};
@@ -117,9 +117,9 @@ impl<P: PageDevice, L: LogDevice, B: Level> Engine<P, L, B> {
         // Whatever the device gave of pages that are read.
         ensures read { HasReadPages P.PageDevice self.old self.new }
         ensures counts { AnswerCounts P.PageDevice result self.old self.new }
-        ensures causes { IfErr result StopsStart }
+        ensures causes { IfErr result MayRefuse }
         ensures lawful { IfOk result (IsLawfulInverse self.old.state.sizes) }
-        ensures few { (d : Deed) → deed_back told.now ≡ Some d → IsDeedOf self.old.state.sizes d
+        ensures few { (d : Deed) → deed_back told.now ≡ Some d
             → IfOk result (λ plan. length plan.writes.items + 1 ≤ undo_cost (Some (op_of (said d)))) }
         // Of an honest one.
         ensures answered { P.honest self.new.pages → LevelsAnswer self.old.state (to_undo told.now) result }

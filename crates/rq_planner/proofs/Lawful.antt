@@ -1,32 +1,37 @@
 -- A plan is lawful, and a refusal one that may be, by the laws of the level, whatever slots that was given.
-use Rattle.std.proofs.Common.{◌≡◌, ◌<◌, ◌∙◌, ℕ, List, Bool, Option, None, Some, Result, Ok, Err, IfErr, IfOk, ap, length, refl, subst, sym, true, false}
+use Rattle.std.proofs.Common.{◌≡◌, ◌<◌, ◌≤◌, ◌∙◌, ℕ, zero, suc, List, [], ◌∷◌, reverse, arith, Bool, Option, None, Some, Result, Ok, Err, IfErr, IfOk, ap, length, refl, subst, sym, true, false}
 use Rattle.std.proofs.lemmas.Bool.{false≢true}
+use Rattle.std.proofs.lemmas.List.{length-map, length-reverse}
 use Rattle.rq_model.specs.declared.record.Deed.{Deed}
+use Rattle.rq_model.specs.declared.record.Deed.TheVariants.{Append, UnlinkHead, Close as Close_deed, Mark}
 use Rattle.rq_model.specs.declared.record.Record.{Record}
 use Rattle.rq_model.specs.declared.record.Record.TheVariants.{OpEnd}
 use Rattle.rq_model.specs.declared.refusal.Refusal.{Refusal}
 use Rattle.rq_model.specs.declared.refusal.Refusal.TheVariants as why
+use Rattle.rq_model.specs.declared.txn.Txn.{Txn}
 use Rattle.rq_model.specs.Deeds.{deed_by, spelled_deed}
 use Rattle.rq_model.specs.Vocabulary.{is_some}
 use Rattle.rq_page.specs.Sizes.{Sizes}
 use Rattle.rq_views.specs.Items.{told_deed}
 use Rattle.rq_level.specs.Asked.{AreOfSlots, deed_back}
-use Rattle.rq_level.specs.ChainPlans.{PlansFor}
+use Rattle.rq_views.specs.Log.{Write}
+use Rattle.rq_level.specs.ChainPlans.{PlansFor, Undoes}
 use Rattle.rq_level.specs.declared.slots.Given.{Given}
 use Rattle.rq_level.specs.declared.writes.Plan.{Plan}
+use Rattle.rq_level.specs.declared.writes.SlotWrite.{SlotWrite}
 use Rattle.rq_level.specs.Lawful.{MayHaveNoPlan, TellsDeed}
 use Rattle.rq_level.specs.LevelState.{LevelState}
 use Rattle.rq_level.specs.Meaning.{kept_at, meaning_of}
 use Rattle.rq_level.specs.Ops.{Doing, Job, Tagging, doing_by, tagging_by}
 use Rattle.rq_level.specs.Ops.Doing.{Send, Receive, Close}
-use Rattle.rq_level.specs.TagPlans.{TagsFor}
-use Rattle.rq_level.specs.Writes.{AreSlotWrites}
+use Rattle.rq_level.specs.TagPlans.{TagsFor, UndoesTag}
+use Rattle.rq_level.specs.Writes.{AreSlotWrites, write_of, writes_of}
 use Rattle.rq_level.proofs.EachLevel.{all_lawful}
 use Rattle.rq_txn.specs.Told.{IsTold}
 use Rattle.rq_planner.specs.Answered.{IsDeedFor, KnowsCells, deed_of, level_back}
 use Rattle.rq_planner.specs.Asked.{Task, task_by, task_level}
 use Rattle.rq_planner.specs.Asked.Task.{Chain, Tag}
-use Rattle.rq_planner.specs.Lawful.{IsLawfulFor, IsLawfulInverse, MayRefuse}
+use Rattle.rq_planner.specs.Lawful.{IsLawfulFor, IsLawfulInverse, MayRefuse, most_writes, most_writes_back}
 use Rattle.rq_planner.proofs.Asking.{task_cases}
 
 -- the deed that bytes tell, by its level
@@ -34,6 +39,52 @@ is_told : (level : ℕ) (bytes : List ℕ) → TellsDeed level bytes → IsTold 
 is_told level bytes h =
     let is : told_deed (deed_by level bytes) ≡ h.deed = ap told_deed h.reads in
     record { reads = h.reads ∙ ap (λ (e : Deed). Some e) (sym is); spelled = ap spelled_deed is ∙ sym h.spelled }
+
+-- ---- how many writes it has
+
+one_write : (z : Sizes) (ws : List SlotWrite) (w : Write) → reverse (writes_of z ws) ≡ w ∷ [] → length ws ≤ 1
+one_write z ws w e = omega (arith, ap length e, length-reverse (writes_of z ws), length-map ws (write_of z))
+
+chain_few : (undo : Bool) (z : Option Sizes) (d : Doing) (k : LevelState) (given : List Given) (latched : List ℕ) (p : Plan) (after : LevelState) → length p.writes.items ≤ 3 → PlansFor undo z (Some d) k given latched (Ok p) after → length p.writes.items ≤ most_writes (Chain d)
+chain_few undo z (Send g tag body) k given latched p after three m = three
+chain_few undo z (Receive g) k given latched p after three m = three
+chain_few true z (Close g) k given latched p after three m = absurd m
+chain_few false (Some z) (Close g) k given latched p after three m = one_write z p.writes.items _ m.marked.writes
+chain_few false None (Close g) k given latched p after three m = absurd m
+
+tag_few : (undo : Bool) (z : Option Sizes) (t : Tagging) (k : LevelState) (given : List Given) (p : Plan) (after : LevelState) → TagsFor undo z (Some t) k given (Ok p) after → length p.writes.items ≤ most_writes (Tag t)
+tag_few true z t k given p after m = absurd m
+tag_few false (Some z) t k given p after m = one_write z p.writes.items _ m.writes
+tag_few false None t k given p after m = absurd m
+
+chain_few_back : (z : Option Sizes) (d : Deed) (k : LevelState) (given : List Given) (latched : List ℕ) (p : Plan) (after : LevelState) → length p.writes.items ≤ 3 → Undoes z (Some d) k given latched (Ok p) after → length p.writes.items ≤ most_writes_back d
+chain_few_back z (Append g n tag previous body) k given latched p after three m = three
+chain_few_back z (UnlinkHead g n tag body) k given latched p after three m = three
+chain_few_back (Some z) (Close_deed g) k given latched p after three m = one_write z p.writes.items _ m.marked.writes
+chain_few_back None (Close_deed g) k given latched p after three m = absurd m
+chain_few_back (Some z) (Mark c tag previous) k given latched p after three m = absurd m
+chain_few_back None (Mark c tag previous) k given latched p after three m = absurd m
+
+tag_few_back : (z : Option Sizes) (d : Deed) (k : LevelState) (given : List Given) (p : Plan) (after : LevelState) → UndoesTag z (Some d) k given (Ok p) after → length p.writes.items ≤ most_writes_back d
+tag_few_back (Some z) (Mark c tag previous) k given p after m = one_write z p.writes.items _ m.writes
+tag_few_back (Some z) (Append g n tag previous body) k given p after m = absurd m
+tag_few_back (Some z) (UnlinkHead g n tag body) k given p after m = absurd m
+tag_few_back (Some z) (Close_deed g) k given p after m = absurd m
+tag_few_back None d k given p after m = absurd m
+
+end_few_back : (n : ℕ) (k : LevelState) (t : Txn) (j level : ℕ) (deed : List ℕ) (given : List Given) (latched : List ℕ) (p : Plan) (after : LevelState) (d : Deed) → length p.writes.items ≤ 3 → deed_by level deed ≡ Some d → (meaning_of n).undoes k (OpEnd t j level deed) given latched (Ok p) after
+    → length p.writes.items ≤ most_writes_back d
+unfolding meaning_of
+end_few_back zero k t j level deed given latched p after d three told m = absurd m
+end_few_back (suc zero) k t j level deed given latched p after d three told m = chain_few_back k.sizes d k given latched p after three (subst (λ (o : Option Deed). Undoes k.sizes o k given latched (Ok p) after) told m)
+end_few_back (suc (suc zero)) k t j level deed given latched p after d three told m = tag_few_back k.sizes d k given p after (subst (λ (o : Option Deed). UndoesTag k.sizes o k given (Ok p) after) told m)
+end_few_back (suc (suc (suc n))) k t j level deed given latched p after d three told m = absurd m
+
+-- what takes a deed back has no more than may be
+pub few_back : (n : ℕ) (k : LevelState) (r : Record) (given : List Given) (latched : List ℕ) (answer : Result Plan Refusal) (after : LevelState) → (meaning_of n).undoes k r given latched answer after → (d : Deed) → deed_back r ≡ Some d → IfOk answer (λ p. length p.writes.items ≤ most_writes_back d)
+few_back n k r given latched (Err e) after m d told = tt
+few_back n k (OpEnd t j level deed) given latched (Ok p) after m d told = end_few_back n k t j level deed given latched p after d ((all_lawful n).count_undo k (OpEnd t j level deed) given latched p after m) told m
+few_back n k _ given latched (Ok p) after m d told = absurd (let no : None ≡ Some d = told in cc)
 
 -- ---- what was asked for
 
@@ -65,6 +116,20 @@ module _ (k : LevelState) (job : Job) (given : List Given) (latched : List ℕ) 
   unfolding meaning_of
   asked_of_tags m t told = tag_asked job.undo k.sizes t k given p after (subst (λ (o : Option Tagging). TagsFor job.undo k.sizes o k given (Ok p) after) told m)
 
+  few_of_chains : length p.writes.items ≤ 3 → Planned 1 → (d : Doing) → doing_by job.level job.bytes ≡ Some d → length p.writes.items ≤ most_writes (Chain d)
+  unfolding meaning_of
+  few_of_chains three m d told = chain_few job.undo k.sizes d k given latched p after three (subst (λ (o : Option Doing). PlansFor job.undo k.sizes o k given latched (Ok p) after) told m)
+
+  few_of_tags : Planned 2 → (t : Tagging) → tagging_by job.level job.bytes ≡ Some t → length p.writes.items ≤ most_writes (Tag t)
+  unfolding meaning_of
+  few_of_tags m t told = tag_few job.undo k.sizes t k given p after (subst (λ (o : Option Tagging). TagsFor job.undo k.sizes o k given (Ok p) after) told m)
+
+  -- it has no more writes than may be
+  has_few : length p.writes.items ≤ 3 → Planned job.level → (task : Task) → task_by job.level job.bytes ≡ Some task → length p.writes.items ≤ most_writes task
+  has_few three m task told = task_cases (λ (x : Task). length p.writes.items ≤ most_writes x) job.level job.bytes task told
+      (λ d e one. few_of_chains three (subst Planned one m) d e)
+      (λ t e two. few_of_tags (subst Planned two m) t e)
+
   -- the deed is what was asked for, whatever slots its level was given
   is_asked : Planned job.level → (task : Task) → task_by job.level job.bytes ≡ Some task → IsDeedFor task (deed_of task p)
   is_asked m task told = task_cases (λ (x : Task). IsDeedFor x (deed_of x p)) job.level job.bytes task told
@@ -93,6 +158,7 @@ module _ (z : Sizes) (images : List (List ℕ)) (levels : List LevelState) (know
           reply = law.replies k job given latched p after m (told_deed (deed_by n p.deed)) told.reads;
         };
         asked = is_asked k job given latched p after m;
+        few = has_few k job given latched p after (law.count k job given latched p after m) m;
       }
 
   pub lawful_inverse : (told : Record) (given : List Given) (latched : List ℕ) (answer : Result Plan Refusal) (after : LevelState) → level_back told < length levels → is_some (deed_back told) ≡ true

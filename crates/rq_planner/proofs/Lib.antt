@@ -10,3 +10,4 @@ pub mod Readings
 pub mod Options
 pub mod Asking
 mod Tags
+mod Latches

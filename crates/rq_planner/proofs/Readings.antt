@@ -1,22 +1,38 @@
 -- Calls that read pages on their way.
 use Rattle.std.specs.Prelude.{IfSome}
-use Rattle.std.proofs.Common.{Option, Some, None, ◌≡◌, ℕ, List, Result, Ok, Err, IfErr, refl, sym, ◌∙◌, ap, subst}
+use Rattle.std.proofs.Common.{Bool, false, Option, Some, None, ◌≡◌, ◌⊎◌, ℕ, ◌/◌, ◌%◌, List, Result, Ok, Err, IfErr, refl, sym, ◌∙◌, ap, arith, inl, inr, subst, ⊎_elim}
+use Rattle.std.proofs.lemmas.Bool.{cases_lt}
+use Rattle.rq_model.specs.declared.refusal.Damage.TheVariants as damage
 use Rattle.rq_model.specs.declared.refusal.Refusal.{Refusal}
 use Rattle.rq_model.specs.declared.refusal.Refusal.TheVariants as why
 use Rattle.rq_disk.specs.declared.device.PageDevice.{Ghosts}
-use Rattle.rq_page.specs.Sizes.{Sizes}
+use Rattle.rq_page.specs.Sizes.{Sizes, page_count}
+use Rattle.rq_views.specs.Stored.{IsStoreSlot}
 use Rattle.rq_level.specs.Lawful.{MayHaveNoPlan}
 use Rattle.rq_level.specs.LevelState.{LevelState}
 use Rattle.rq_pool.specs.Indexed.{AreFlaggedAlike}
 use Rattle.rq_pool.specs.Pooled.{Pooled}
-use Rattle.rq_pool.specs.Fetching.{HasReadFor, IsReadAsStored, IsUnread, MayHaveRead, ReadFails, ReadsTruly}
-use Rattle.rq_pool.proofs.Fetched.{still_read, stored_after, unread_then}
+use Rattle.rq_pool.specs.Fetching.{Fetches, HasReadFor, IsReadAsStored, IsUnread, MayHaveRead, ReadFails, ReadsTruly}
+use Rattle.rq_pool.proofs.Fetched.{is_unread, still_read, stored_after, unfetched_reads, unread_then}
 use Rattle.rq_planner.specs.Answered.{AreBelow, IsFreeCell, KnowsBelow, KnowsCells}
 use Rattle.rq_planner.specs.Lawful.{MayRefuse, unlatched_refusal}
 use Rattle.rq_planner.proofs.Knowing.{free_kept, knows_kept, those_kept}
 
 err_is : {X : Type 0} (e r : Refusal) → ◌≡◌ {A = Result X Refusal} (Err e) (Err r) → e ≡ r
 err_is e r is = cc
+
+-- the store has a slot at an address, or has none
+stands_or_not : (z : Sizes) (a : ℕ) → IsStoreSlot z a ⊎ (IsStoreSlot z a → ⊥)
+stands_or_not z a = elim (cases_lt 0 (a / 16)) [
+  | inl low ↦ elim (cases_lt (a / 16) (page_count z)) [
+    | inl high ↦ elim (cases_lt 0 (a % 16)) [
+      | inl slot ↦ inl (record { page_low = omega (arith, low); page_high = high; slot = omega (arith, slot) })
+      | inr none ↦ inr (λ s. let k = s.slot in absurd (omega (arith, k, none)))
+    ]
+    | inr over ↦ inr (λ s. let k = s.page_high in absurd (omega (arith, k, over)))
+  ]
+  | inr none ↦ inr (λ s. let k = s.page_low in absurd (omega (arith, k, none)))
+]
 
 module _ {P : Type 0} (g : Ghosts P) where
   -- What was read is the store's where a refusal is passed on, perhaps as another; but one that tells of a failed read tells of it then too
@@ -72,10 +88,21 @@ module _ {P : Type 0} (g : Ghosts P) where
   fails_alone _ old new fails = fails
 
 module _ {P : Type 0} (g : Ghosts P) (old new : Pooled P) where
+  -- A look that is refused is one at a slot of the store, whose page was not read.
+  module _ (a : ℕ) (e : Refusal) (stands : IsStoreSlot old.sizes a → Fetches {X = Bool} g (a / 16) old (Err e) new) (none : (IsStoreSlot old.sizes a → ⊥) → ◌≡◌ {A = Result Bool Refusal} (Err e) (Ok false) × (new ≡ old)) where
+    look_stands : IsStoreSlot old.sizes a
+    look_stands = ⊎_elim (λ s. s) (λ no. absurd (let is = (none no).0 in cc is)) (stands_or_not old.sizes a)
+
+    pub look_reads : {Y : Type 0} → HasReadFor {X = Y} g old (Err e) new
+    look_reads = let s = look_stands in unfetched_reads g (a / 16) old new e s.page_low s.page_high (stands s)
+
+    pub look_unread : IsUnread g old e new
+    look_unread = let s = look_stands in is_unread g (a / 16) e old new s.page_low s.page_high (stands s)
+
   -- a page that was not read may refuse a plan
   pub may_be_unread : (e : Refusal) → IsUnread g old e new → MayRefuse e
   may_be_unread why.DiskRead is = tt
-  may_be_unread (why.Damaged x) is = tt
+  may_be_unread (why.Damaged (damage.Page n)) is = tt
   may_be_unread _ is = absurd is
 
   -- the same of any answer

@@ -1,12 +1,12 @@
 //! Gathers the slots that a level wants.
 ghost use Rattle.std.specs.Prelude.{◌≡◌, ◌<◌, ◌/◌, false, IfErr, Err, None, OnOk, length};
 ghost use Rattle.rq_level.specs.Given.{AreGiven};
-ghost use Rattle.rq_level.specs.Meaning.{meaning_of};
+ghost use Rattle.rq_level.specs.Meaning.{kept_at, meaning_of};
 ghost use Rattle.rq_pool.specs.Fetching.{HasReadFor, ReadsTruly};
 ghost use Rattle.rq_txn.specs.Rows.{latched_in};
 ghost use Rattle.rq_planner.specs.Answered.{HasGathered, IsAnswered, IsGivenMore, IsWithheld, KnowsCells, wants_of};
 ghost use Rattle.rq_planner.specs.Asked.{known_from};
-ghost use Rattle.rq_planner.specs.Lawful.{MayRefuse};
+ghost use Rattle.rq_planner.specs.Lawful.{AreFreelyGiven, IsForLatch, IsHeldBack, MayRefuse};
 
 use rq_disk::PageDevice;
 use rq_level::{Level, Levels, Op, Slots, Want};
@@ -31,10 +31,13 @@ pub(crate) fn gather<P: PageDevice, B: Level>(
     requires level { op.now.level < length levels.now }
     ensures read { HasReadFor P.PageDevice pages.old result pages.new }
     ensures given { OnOk result (AreGiven pages.old.sizes slots.new) }
+    ensures free { OnOk result (AreFreelyGiven transactions.now (meaning_of op.now.level) (kept_at levels.now op.now.level)
+        slots.new) }
     ensures all { ReadsTruly P.PageDevice pages.old result pages.new
         → OnOk result (HasGathered (known_from pages.old transactions.now) (wants_of levels.now op.now.level) op.now slots.new) }
     ensures none { OnOk result (wants_of levels.now op.now.level op.now slots.new ≡ None) }
     ensures causes { IfErr result MayRefuse }
+    ensures held { IfErr result (IsHeldBack transactions.now (wants_of levels.now op.now.level op.now)) }
     ensures refusal { ReadsTruly P.PageDevice pages.old result pages.new
         → IfErr result (λ r. IsAnswered (known_from pages.old transactions.now) (wants_of levels.now op.now.level) op.now
         (λ given answer. ⊥) (Err r)) }
@@ -59,6 +62,7 @@ fn give<P: PageDevice>(
     ensures read { HasReadFor P.PageDevice pages.old result pages.new }
     ensures given { OnOk result (IsGivenMore pages.new.sizes pages.new.images at slots.old slots.new) }
     ensures unlatched { OnOk result (latched_in transactions.now (at / 16) ≡ false) }
+    ensures latch { IfErr result (IsForLatch (latched_in transactions.now (at / 16))) }
     ensures causes { IfErr result MayRefuse }
     ensures withheld { ReadsTruly P.PageDevice pages.old result pages.new
         → IfErr result (IsWithheld (known_from pages.old transactions.now) at) }

@@ -1,5 +1,5 @@
 //! Planners: the levels of a store, with the slots that they are given.
-ghost use Rattle.std.specs.Prelude.{◌≡◌, ◌≢◌, ◌<◌, ◌/◌, ℕ, IfErr, IfOk, IsTrue, OnOk, Some, true, false, length, option_map, slice_set};
+ghost use Rattle.std.specs.Prelude.{◌≡◌, ◌≢◌, ◌<◌, ◌≤◌, ◌/◌, ℕ, IfErr, IfOk, IsTrue, OnOk, Some, true, false, length, option_map, slice_set};
 ghost use Rattle.rq_model.specs.declared.record.Deed.{Deed};
 ghost use Rattle.rq_model.specs.Deeds.{deed_by};
 ghost use Rattle.rq_model.specs.Vocabulary.{is_some};
@@ -11,10 +11,11 @@ ghost use Rattle.rq_pool.specs.Fetching.{HasReadFor, IsUnread, ReadsTruly};
 ghost use Rattle.rq_pool.specs.Pooled.{image_at};
 ghost use Rattle.rq_pool.specs.Writing.{IsRedoAt};
 ghost use Rattle.rq_planner.specs.Answered.{IsAnswered, IsAnsweredBack, IsPlannedAlone, IsPlannedBy, KnowsCells, MayPlan, level_back, wants_of};
-ghost use Rattle.rq_planner.specs.Asked.{known_from};
+ghost use Rattle.rq_sound.specs.Plans.{AreUnlatched};
+ghost use Rattle.rq_planner.specs.Asked.{Task, known_from, task_by};
 ghost use Rattle.rq_planner.specs.Backs.{IsJudgedBack, IsRefusedBack, IsTakingBack, MayRefuseBack};
 ghost use Rattle.rq_planner.specs.Handed.{AreForStores};
-ghost use Rattle.rq_planner.specs.Lawful.{IsLawfulFor, IsLawfulInverse, MayRefuse, unlatched_refusal};
+ghost use Rattle.rq_planner.specs.Lawful.{IsByOwnLatch, IsLawfulFor, IsLawfulInverse, MayRefuse, most_writes_back, unlatched_refusal};
 ghost use Rattle.rq_planner.specs.PageUndos.{NotPutBackFor, PutsBackWrite};
 
 use crate::handed::StoreLevels;
@@ -96,12 +97,12 @@ impl<B: Level> Planner<B> {
     }
 
     /// The plan of an operation by its level, from the slots as they are. Its writes are put into `room`. What it chose is
-    /// given back. What a plan tells was asked for, whatever the device gave.
+    /// given back. Whatever the device gave, a plan tells what was asked for, and writes on pages that nobody has latched.
     ///
     /// # Errors
     /// `Latched` where it needs a page that an operation under way has latched, or a cell of which none is free on another
-    /// page, and only there; `NoMemory`; of a store that is not sound, where the operation may not be done, or where the device
-    /// has lied, also `Damaged`; `DiskRead`.
+    /// page, and only there; of a close or a mark so whatever the device gave; `NoMemory`; of a store that is not sound, where
+    /// the operation may not be done, or where the device has lied, also `Damaged`; `DiskRead`.
     pub fn plan<P: PageDevice>(
         &mut self,
         room: Vec<SlotWrite>,
@@ -115,6 +116,9 @@ impl<B: Level> Planner<B> {
         ensures same { self.new ≡ self.old }
         ensures read { HasReadFor P.PageDevice pages.old result pages.new }
         ensures lawful { IfOk result (IsLawfulFor pages.old.sizes op.now) }
+        ensures free { IfOk result (λ p. AreUnlatched (known_from pages.old transactions.now) p.writes.items) }
+        ensures latched { (d : Task) → task_by op.now.level op.now.bytes ≡ Some d
+            → IsByOwnLatch pages.old.sizes transactions.now d result }
         ensures causes { IfErr result MayRefuse }
         ensures answered { ReadsTruly P.PageDevice pages.old result pages.new
             → IsAnswered (known_from pages.old transactions.now) (wants_of self.old op.now.level) op.now
@@ -151,6 +155,10 @@ impl<B: Level> Planner<B> {
         ensures same { self.new ≡ self.old }
         ensures read { HasReadFor P.PageDevice pages.old result pages.new }
         ensures lawful { is_some (deed_back told.now) ≡ true → IfOk result (IsLawfulInverse pages.old.sizes) }
+        ensures few { (d : Deed) → deed_back told.now ≡ Some d
+            → IfOk result (λ p. length p.writes.items ≤ most_writes_back d) }
+        ensures free { is_some (deed_back told.now) ≡ true
+            → IfOk result (λ p. AreUnlatched (known_from pages.old transactions.now) p.writes.items) }
         ensures causes { IfErr result MayRefuse }
         ensures answered { ReadsTruly P.PageDevice pages.old result pages.new
             → IsAnsweredBack (known_from pages.old transactions.now) self.old told.now result }

@@ -1,12 +1,14 @@
 //! Plans of operations, and of what takes them back.
-ghost use Rattle.std.specs.Prelude.{◌≡◌, ◌<◌, IfErr, IfOk, length, true};
+ghost use Rattle.std.specs.Prelude.{◌≡◌, ◌<◌, ◌≤◌, IfErr, IfOk, Some, length, false, true};
+ghost use Rattle.rq_model.specs.declared.record.Deed.{Deed};
 ghost use Rattle.rq_model.specs.Vocabulary.{is_some};
 ghost use Rattle.rq_level.specs.Asked.{deed_back};
 ghost use Rattle.rq_level.specs.Meaning.{kept_at, meaning_of};
 ghost use Rattle.rq_pool.specs.Fetching.{HasReadFor, ReadsTruly};
 ghost use Rattle.rq_planner.specs.Answered.{IsAnswered, IsAnsweredBack, KnowsCells, MayPlan, level_back, wants_of};
-ghost use Rattle.rq_planner.specs.Asked.{known_from};
-ghost use Rattle.rq_planner.specs.Lawful.{IsLawfulFor, IsLawfulInverse, MayRefuse};
+ghost use Rattle.rq_sound.specs.Plans.{AreUnlatched};
+ghost use Rattle.rq_planner.specs.Asked.{Task, known_from, task_by};
+ghost use Rattle.rq_planner.specs.Lawful.{IsByOwnLatch, IsLawfulFor, IsLawfulInverse, MayRefuse, most_writes_back};
 
 use crate::gathering::gather;
 use crate::telling::give_back;
@@ -37,6 +39,9 @@ pub(crate) fn plan<P: PageDevice, B: Level>(
     ensures same { levels.new ≡ levels.old }
     ensures read { HasReadFor P.PageDevice pages.old result pages.new }
     ensures lawful { IfOk result (IsLawfulFor pages.old.sizes op.now) }
+    ensures free { IfOk result (λ p. AreUnlatched (known_from pages.old transactions.now) p.writes.items) }
+    ensures latched { op.now.undo ≡ false → (d : Task) → task_by op.now.level op.now.bytes ≡ Some d
+        → IsByOwnLatch pages.old.sizes transactions.now d result }
     ensures causes { IfErr result MayRefuse }
     ensures answered { ReadsTruly P.PageDevice pages.old result pages.new
         → IsAnswered (known_from pages.old transactions.now) (wants_of levels.old op.now.level) op.now
@@ -71,6 +76,9 @@ pub(crate) fn plan_inverse<P: PageDevice, B: Level>(
     ensures same { levels.new ≡ levels.old }
     ensures read { HasReadFor P.PageDevice pages.old result pages.new }
     ensures lawful { is_some (deed_back told.now) ≡ true → IfOk result (IsLawfulInverse pages.old.sizes) }
+    ensures few { (d : Deed) → deed_back told.now ≡ Some d → IfOk result (λ p. length p.writes.items ≤ most_writes_back d) }
+    ensures free { is_some (deed_back told.now) ≡ true
+        → IfOk result (λ p. AreUnlatched (known_from pages.old transactions.now) p.writes.items) }
     ensures causes { IfErr result MayRefuse }
     ensures answered { ReadsTruly P.PageDevice pages.old result pages.new
         → IsAnsweredBack (known_from pages.old transactions.now) levels.old told.now result }

@@ -1,7 +1,6 @@
 -- Pages that all stand in frames, and pages that were read again one after the other.
-use Rattle.std.proofs.Common.{Bool, false, [], ◌∷◌, ◌++◌, slice_index_or, slice_set, ◌≡◌, ℕ, zero, suc, ◌+◌, ◌%◌, ◌^◌, ◌⊎◌, ◌<◌, ◌≤◌, List, Result, length, refl, sym, ap, subst, arith, ◌∙◌, inl, inr, Ok, Err, ⊎_elim}
+use Rattle.std.proofs.Common.{Bool, false, [], ◌∷◌, ◌++◌, slice_index_or, slice_set, ◌≡◌, ℕ, zero, suc, ◌+◌, ◌%◌, ◌^◌, ◌<◌, ◌≤◌, List, Result, length, refl, sym, ap, subst, arith, ◌∙◌, inl, inr, Ok, Err, ⊎_elim}
 use Rattle.std.proofs.lemmas.Bool.{false≢true, true≢false}
-use Rattle.rq_model.specs.declared.refusal.Damage.{Damage}
 use Rattle.rq_model.specs.declared.refusal.Damage.TheVariants as damage
 use Rattle.rq_model.specs.declared.refusal.Refusal.{Refusal}
 use Rattle.rq_model.specs.declared.refusal.Refusal.TheVariants as why
@@ -9,8 +8,8 @@ use Rattle.rq_page.specs.Sizes.{Sizes, page_count}
 use Rattle.rq_disk.specs.Device.{PageAsk}
 use Rattle.rq_disk.specs.declared.device.PageDevice.{Ghosts}
 use Rattle.rq_pool.specs.Pooled.{Pooled}
-use Rattle.rq_pool.specs.Held.{Held, IsFixed, IsFramed, IsSetAt, fixed_at, page_at}
-use Rattle.rq_pool.specs.Frames.{IsFirstFixed, in_order}
+use Rattle.rq_pool.specs.Held.{Held, IsFixed, IsFramed, IsSetAt, StandOnce, fixed_at, page_at}
+use Rattle.rq_pool.specs.Frames.{IsFirstAlone, IsFirstFixed, in_order}
 use Rattle.rq_pool.specs.Reading.{OnlyRead}
 use Rattle.rq_pool.specs.Fetching.{AreAllFramed, Fetches, HasFailed, HasOutside, HasReadFor, IsAtHand, IsReadAsStored, IsUnread, MayHaveRead, NotFetched, ReadFails, ReadsTruly}
 use Rattle.rq_pool.proofs.KeptUp.{kept_still, kept_then}
@@ -58,8 +57,25 @@ held_at fixed p b lt = record {
   now = set_in_order 0 fixed p b ∙ ap (λ (n : ℕ). slice_set (in_order 0 fixed) p (record { page = n; fixed = b })) (omega arith);
 }
 
+-- the superblock stays fixed, where another page is added or is fixed or let go
+pub first_stays : (fixed : List Bool) → IsFirstFixed fixed → IsFirstFixed (fixed ++ false ∷ [])
+first_stays [] first = absurd (false≢true first)
+first_stays (f ∷ fixed) first = first
+
+pub first_set : (fixed : List Bool) (i : ℕ) (b : Bool) → 1 ≤ i → IsFirstFixed fixed → IsFirstFixed (slice_set fixed i b)
+first_set [] i b behind first = first
+first_set (f ∷ fixed) zero b behind first = absurd (omega (arith, behind))
+first_set (f ∷ fixed) (suc i) b behind first = first
+
+pub first_fixed : (fixed : List Bool) → IsFirstFixed fixed → IsFixed (in_order 0 fixed) 0
+first_fixed [] first = absurd (false≢true first)
+first_fixed (f ∷ fixed) first = record { at = 0; within = omega arith; is = refl; fixed = first }
+
+pub in_order_once : (fixed : List Bool) → StandOnce (in_order 0 fixed)
+in_order_once fixed i j low high same = stands_once fixed i (page_at (in_order 0 fixed) j) low same ∙ sym (stands_once fixed j (page_at (in_order 0 fixed) j) high refl)
+
 -- no page behind the superblock is fixed as they are read
-pub first_more : (fixed : List Bool) → IsFirstFixed fixed → IsFirstFixed (fixed ++ false ∷ [])
+pub first_more : (fixed : List Bool) → IsFirstAlone fixed → IsFirstAlone (fixed ++ false ∷ [])
 first_more fixed first i behind = more fixed i ∙ first i behind where
   more : (xs : List Bool) (k : ℕ) → slice_index_or (xs ++ false ∷ []) k false ≡ slice_index_or xs k false
   more [] zero = refl
@@ -67,7 +83,7 @@ first_more fixed first i behind = more fixed i ∙ first i behind where
   more (x ∷ xs) zero = refl
   more (x ∷ xs) (suc k) = more xs k
 
-pub first_loose : (fixed : List Bool) → IsFirstFixed fixed → (q : ℕ) → 1 ≤ q → IsFixed (in_order 0 fixed) q → ⊥
+pub first_loose : (fixed : List Bool) → IsFirstAlone fixed → (q : ℕ) → 1 ≤ q → IsFixed (in_order 0 fixed) q → ⊥
 first_loose fixed first q behind f =
     let at = stands_once fixed f.at q f.within f.is in
     true≢false (sym f.fixed ∙ fixed_in_order 0 fixed f.at ∙ first f.at (λ none. (let zero_at = none in absurd (omega (arith, at, behind, zero_at)))))
@@ -84,7 +100,7 @@ module _ {P : Type 0} (g : Ghosts P) where
 
   -- none was read
   pub still_read : (old : Pooled P) → MayHaveRead g old old
-  still_read old = record { kept = λ forced. kept_still g forced old old refl refl refl refl; frames = refl; changed = refl; device = read_none old.device; stood = λ all. refl }
+  still_read old = record { kept = λ forced. kept_still g forced old old refl refl refl refl; frames = refl; changed = refl; device = read_none old.device; stood = λ all. refl; held = λ p framed. refl }
 
   -- some were read, and then some
   pub read_then : (old mid new : Pooled P) → MayHaveRead g old mid → MayHaveRead g mid new → MayHaveRead g old new
@@ -94,6 +110,7 @@ module _ {P : Type 0} (g : Ghosts P) where
     changed = b.changed ∙ a.changed;
     device = only_read_on g old.device mid.device new.device a.device b.device;
     stood = λ all. let same : mid ≡ old = a.stood all in b.stood (subst (λ (s : Pooled P). AreAllFramed s) (sym same) all) ∙ same;
+    held = λ p framed. b.held p (subst (λ (f : List Held). IsFramed f p) (sym a.frames) framed) ∙ a.held p framed;
   }
 
   -- a page that stands in a frame is at hand, and nothing happens
@@ -197,20 +214,18 @@ module _ {P : Type 0} (g : Ghosts P) where
   -- what is told of a page that was not read
   pub is_unread : {X : Type 0} (n : ℕ) (e : Refusal) (old new : Pooled P) → 1 ≤ n → n < page_count old.sizes → Fetches {X = X} g n old (Err e) new → IsUnread g old e new
   is_unread n why.DiskRead old new low high f = tt
-  is_unread {X} n (why.Damaged x) old new low high f = lied x f where
-    lied : (x : Damage) → Fetches {X = X} g n old (Err (why.Damaged x)) new → IsReadAsStored g old new → ⊥
-    lied (damage.Page m) f stored = ⊎_elim (λ all. false≢true (f.stood (inl (all n low high))).0) (λ h. f.refused.1 h) stored
-    lied _ f stored = f.refused
+  is_unread n (why.Damaged (damage.Page m)) old new low high f =
+      (subst (λ (q : ℕ). q < page_count old.sizes) (sym f.refused.0) high, λ stored. ⊎_elim (λ all. false≢true (f.stood (inl (all n low high))).0) (λ h. f.refused.1 h) stored)
   is_unread n _ old new low high f = absurd f.refused
 
   -- some were read, and then one was not
   pub unread_then : (e : Refusal) (old mid new : Pooled P) → MayHaveRead g old mid → IsUnread g mid e new → IsUnread g old e new
   unread_then why.DiskRead old mid new read is = tt
-  unread_then (why.Damaged x) old mid new read is = λ stored. is (stored_after old mid new read stored)
+  unread_then (why.Damaged (damage.Page n)) old mid new read is = (subst (λ (z : Sizes). n < page_count z) (read.kept 0).sizes is.0, λ stored. is.1 (stored_after old mid new read stored))
   unread_then _ old mid new read is = absurd is
 
   -- none is where each is read as it is stored
   pub unread_truly : {X : Type 0} (e : Refusal) (old new : Pooled P) → IsUnread g old e new → ReadsTruly {X = X} g old (Err e) new → ⊥
   unread_truly why.DiskRead old new is truly = truly.1 refl
-  unread_truly (why.Damaged x) old new is truly = is truly.0
+  unread_truly (why.Damaged (damage.Page n)) old new is truly = is.1 truly.0
   unread_truly _ old new is truly = absurd is

@@ -1,5 +1,6 @@
 -- Pages are fixed in their frames, or let go, one after the other.
-use Rattle.std.proofs.Common.{◌≡◌, ◌≢◌, ℕ, zero, suc, ◌+◌, ◌<◌, ◌≤◌, ◌||◌, nat_eq, Bool, true, false, List, [], ◌∷◌, length, slice_index_or, refl, sym, ap, arith, ◌∙◌, inl, inr}
+use Rattle.std.proofs.Common.{◌≡◌, ◌≢◌, ℕ, zero, suc, ◌+◌, cond, ◌<◌, ◌≤◌, ◌||◌, nat_eq, Bool, true, false, List, [], ◌∷◌, length, slice_index_or, refl, sym, ap, arith, ◌∙◌, inl, inr}
+use Rattle.std.specs.List.{sum_by}
 use Rattle.std.proofs.lemmas.Bool.{cases_eq, true≢false}
 use Rattle.std.proofs.lemmas.Bool.Decides.{nat_tests}
 use Rattle.std.proofs.lemmas.List.{get_or-set_same, get_or-set_other, length-set}
@@ -9,7 +10,7 @@ use Rattle.rq_pool.specs.Fetching.{AreAllFramed}
 use Rattle.rq_pool.specs.Held.{Held, IsFixed, IsSetAt, fixed_at, nothing_held, page_at}
 use Rattle.rq_pool.specs.KeptUp.{IsKeptUp, IsStill}
 use Rattle.rq_pool.specs.Pooled.{Pooled}
-use Rattle.rq_pool.specs.Want.{AreOfStore, CannotBeHad, NoneFixed, StayFixed, among, framed_in, lack, missing, one_unless}
+use Rattle.rq_pool.specs.Want.{AreOfStore, CannotBeHad, NoneFixed, StayFixed, among, distinct, framed_in, lack, missing, one_unless}
 use Rattle.rq_pool.proofs.KeptUp.{kept_still}
 
 same_yes : (p q : ℕ) → p ≡ q → nat_eq p q ≡ true
@@ -21,6 +22,10 @@ same_no p q ne = grind (arith, nat_tests)
 or_right : (a b : Bool) → b ≡ true → (a || b) ≡ true
 or_right true b e = refl
 or_right false b e = e
+
+or_more : (a b c : Bool) → (b ≡ true → c ≡ true) → (a || b) ≡ true → (a || c) ≡ true
+or_more true b c more e = refl
+or_more false b c more e = more e
 
 -- ---- wanted pages
 
@@ -49,19 +54,27 @@ framed_here [] i q lt is = absurd (omega (arith, lt))
 framed_here (h ∷ hs) zero q lt is = ap (λ (b : Bool). b || framed_in hs q) (same_yes h.page q is)
 framed_here (h ∷ hs) (suc i) q lt is = or_right (nat_eq h.page q) (framed_in hs q) (framed_here hs i q (omega (arith, lt)) is)
 
-lacks_none : (frames : List Held) (ps : List ℕ) → ((q : ℕ) → among ps q ≡ true → framed_in frames q ≡ true) → missing frames ps ≡ 0
+lacks_none : (frames : List Held) (ps : List ℕ) → ((q : ℕ) → among ps q ≡ true → framed_in frames q ≡ true) → sum_by (lack frames) ps ≡ 0
 lacks_none frames [] all = refl
 lacks_none frames (p ∷ ps) all =
     let a : lack frames p ≡ 0 = ap one_unless (all p (ap (λ (b : Bool). b || among ps p) (same_yes p p refl))) in
-    let rest : missing frames ps ≡ 0 = lacks_none frames ps (λ q e. all q (or_right (nat_eq p q) (among ps q) e)) in
+    let rest : sum_by (lack frames) ps ≡ 0 = lacks_none frames ps (λ q e. all q (or_right (nat_eq p q) (among ps q) e)) in
     let more = sum_by-cons (lack frames) p ps in
     omega (arith, a, rest, more)
+
+among_more : (p : ℕ) (ps : List ℕ) (q : ℕ) → (among (distinct ps) q ≡ true → among ps q ≡ true) → (b : Bool) → among (cond b (distinct ps) (p ∷ distinct ps)) q ≡ true → among (p ∷ ps) q ≡ true
+among_more p ps q rest true e = or_right (nat_eq p q) (among ps q) (rest e)
+among_more p ps q rest false e = or_more (nat_eq p q) (among (distinct ps) q) (among ps q) rest e
+
+among_distinct : (ps : List ℕ) (q : ℕ) → among (distinct ps) q ≡ true → among ps q ≡ true
+among_distinct [] q e = e
+among_distinct (p ∷ ps) q e = among_more p ps q (among_distinct ps q) (among ps p) e
 
 -- They can all be had where each page stands in a frame.
 pub had : {P : Type 0} (old : Pooled P) (forced : ℕ) (ps : List ℕ) → AreAllFramed old → AreOfStore old.sizes ps → CannotBeHad old forced ps → ⊥
 had old forced ps all of_store cannot =
-    let none : missing old.frames ps ≡ 0 = lacks_none old.frames ps (λ q wanted.
-    let one = among_one ps q wanted in
+    let none : missing old.frames ps ≡ 0 = lacks_none old.frames (distinct ps) (λ q wanted.
+    let one = among_one ps q (among_distinct ps q wanted) in
     let there = of_store one.at one.within in
     let f = all (slice_index_or ps one.at 0) there.0 there.1 in
     framed_here old.frames f.at q f.within (f.is ∙ one.is)) in
@@ -117,12 +130,14 @@ module _ (b : Bool) (ps : List ℕ) (old : List Held) (n : ℕ) (new : List Held
 
 -- the first k of these pages are fixed in the frames in which they stand, or let go
 pub record AreSetTo {P : Type 0} (b : Bool) (old new : Pooled P) (ps : List ℕ) (k : ℕ) : Type 0 where
+  pub count : length new.frames ≡ length old.frames
   pub each : (i j : ℕ) → i < length new.frames → j < k → page_at new.frames i ≡ slice_index_or ps j 0 → fixed_at new.frames i ≡ b
   pub still : IsStill old new
   pub stay : StayFixed ps old.frames new.frames
 
 pub set_first : {P : Type 0} (b : Bool) (old : Pooled P) (ps : List ℕ) → AreSetTo b old old ps 0
 set_first b old ps = record {
+  count = refl;
   each = λ i j lt no is. absurd (omega (arith, no));
   still = record { device = refl; sizes = refl; images = refl; changed = refl; apart = refl };
   stay = record { to = λ q no f. f; from = λ q no f. f };
@@ -133,6 +148,7 @@ set_next b old mid new ps k so_far lt still set =
     let n = slice_index_or ps k 0 in
     let one = among_at ps k lt in
     record {
+      count = length_is b ps mid.frames n new.frames one set ∙ so_far.count;
       each = λ i j within low is. elim (cases_eq i set.at) [
         | inl here ↦ ap (fixed_at new.frames) here ∙ ap (λ (x : Held). x.fixed) (here_is b ps mid.frames n new.frames one set)
         | inr other ↦

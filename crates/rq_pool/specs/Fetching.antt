@@ -39,6 +39,8 @@ pub record MayHaveRead {P : Type 0} (g : Ghosts P) (old new : Pooled P) : Type 0
   pub device : OnlyRead g old.device new.device
   -- nothing happened where each page stands in a frame
   pub stood : AreAllFramed old → new ≡ old
+  -- whatever the device is, a page in a frame has its image
+  pub held : (p : ℕ) → IsFramed old.frames p → image_at new.images p ≡ image_at old.images p
 
 -- The device failed once: in a call that was asked this.
 pub record HasFailed {P : Type 0} (g : Ghosts P) (ask : PageAsk) (old new : P) : Type 0 where
@@ -86,8 +88,9 @@ IsReadAsStored g old new = AreAllFramed old ⊎ g.honest new.device
 abbrev pub ReadsTruly : {P X : Type 0} → Ghosts P → Pooled P → Result X Refusal → Pooled P → Type 0
 ReadsTruly g old result new = IsReadAsStored g old new × (result ≡ Err why.DiskRead → ⊥)
 
--- why a page was not read on the way of a call: its device failed, or has lied, as some page stood in no frame
+-- Why a page was not read on the way of a call: its device failed, or has lied, as some page stood in no frame. The page that is named
+-- then is one of the store.
 abbrev pub IsUnread : {P : Type 0} → Ghosts P → Pooled P → Refusal → Pooled P → Type 0
 IsUnread g old why.DiskRead new = Unit {0}
-IsUnread g old (why.Damaged x) new = IsReadAsStored g old new → ⊥
+IsUnread g old (why.Damaged (damage.Page n)) new = (n < page_count old.sizes) × (IsReadAsStored g old new → ⊥)
 IsUnread g old r new = ⊥

@@ -1,5 +1,5 @@
 -- Pages in frames: their images, which of them were changed, and where they stand.
-use Rattle.std.specs.Prelude.{◌≡◌, ℕ, suc, ◌≢◌, Bool, false, List, [], ◌∷◌, map, slice_index_or}
+use Rattle.std.specs.Prelude.{◌≡◌, ℕ, suc, ◌≢◌, Bool, true, false, List, [], ◌∷◌, map, slice_index_or}
 use Rattle.rq_pool.specs.declared.Frame.{Frame}
 use Rattle.rq_pool.specs.Pooled.{image_at}
 use Rattle.rq_pool.specs.Held.{Held}
@@ -31,6 +31,10 @@ abbrev pub in_order : ℕ → List Bool → List Held
 in_order p [] = []
 in_order p (fixed ∷ more) = record { page = p; fixed = fixed } ∷ in_order (suc p) more
 
--- no page but the superblock is fixed in a frame
+-- the superblock is fixed in its frame
 abbrev pub IsFirstFixed : List Bool → Type 0
-IsFirstFixed fixed = (i : ℕ) → i ≢ 0 → slice_index_or fixed i false ≡ false
+IsFirstFixed fixed = slice_index_or fixed 0 false ≡ true
+
+-- and no other page is fixed in any
+abbrev pub IsFirstAlone : List Bool → Type 0
+IsFirstAlone fixed = (i : ℕ) → i ≢ 0 → slice_index_or fixed i false ≡ false

@@ -35,3 +35,7 @@ pub record IsSetAt (fixed : Bool) (old : List Held) (page : ℕ) (new : List Hel
   pub is : page_at old at ≡ page
   pub only : (i : ℕ) → i < length old → page_at old i ≡ page → i ≡ at
   pub now : new ≡ slice_set old at (record { page = page; fixed = fixed })
+
+-- each page stands in one frame at most
+abbrev pub StandOnce : List Held → Type 0
+StandOnce frames = (i j : ℕ) → i < length frames → j < length frames → page_at frames i ≡ page_at frames j → i ≡ j

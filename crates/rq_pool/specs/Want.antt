@@ -1,5 +1,5 @@
 -- Several pages that are wanted in frames at once.
-use Rattle.std.specs.Prelude.{◌≡◌, ℕ, ◌<◌, ◌≤◌, ◌||◌, nat_eq, nat_lt, Bool, true, false, List, [], ◌∷◌, length, slice_index_or}
+use Rattle.std.specs.Prelude.{◌≡◌, ℕ, cond, ◌<◌, ◌≤◌, ◌||◌, nat_eq, nat_lt, Bool, true, false, List, [], ◌∷◌, length, slice_index_or}
 use Rattle.std.specs.List.{sum_by}
 use Rattle.rq_model.specs.declared.refusal.Refusal.{Refusal}
 use Rattle.rq_model.specs.declared.refusal.Refusal.TheVariants as why
@@ -23,10 +23,10 @@ abbrev pub framed_in : List Held → ℕ → Bool
 framed_in [] q = false
 framed_in (h ∷ hs) q = nat_eq h.page q || framed_in hs q
 
--- no page is named twice
-abbrev pub AreApart : List ℕ → Type 0
-AreApart [] = Unit {0}
-AreApart (p ∷ ps) = (among ps p ≡ false) × AreApart ps
+-- these pages, each once
+abbrev pub distinct : List ℕ → List ℕ
+distinct [] = []
+distinct (p ∷ ps) = cond (among ps p) (distinct ps) (p ∷ distinct ps)
 
 -- each is a page of the store behind the first
 abbrev pub AreOfStore : Sizes → List ℕ → Type 0
@@ -52,7 +52,7 @@ lack frames p = one_unless (framed_in frames p)
 
 -- how many of these pages stand in no frame
 abbrev pub missing : List Held → List ℕ → ℕ
-missing frames ps = sum_by (lack frames) ps
+missing frames ps = sum_by (lack frames) (distinct ps)
 
 -- they outnumber those frames
 abbrev pub CannotBeHad : {P : Type 0} → Pooled P → ℕ → List ℕ → Type 0
@@ -71,7 +71,8 @@ NoneFixed ps frames = (q : ℕ) → among ps q ≡ true → IsFixed frames q →
 -- one whose last record is forced. Or it gave no page of a store, and is not honest.
 abbrev pub NotFixed : {P : Type 0} → Ghosts P → ℕ → List ℕ → Refusal → Pooled P → Pooled P → Type 0
 NotFixed g forced ps why.PoolFull old new = CannotBeHad old forced ps × (g.faults new.device ≡ g.faults old.device)
-NotFixed g forced ps why.DiskRead old new = (out : HasOutside old) × HasFailed g (Reads out.page) old.device new.device
+NotFixed g forced ps why.DiskRead old new = (out : HasOutside old) × (among ps out.page ≡ true)
+    × HasFailed g (Reads out.page) old.device new.device
 NotFixed g forced ps why.DiskWrite old new = (page : ℕ) × (image : List ℕ) × IsForced g forced new page image
     × HasFailed g (Writes page image) old.device new.device
 NotFixed g forced ps (why.Damaged (damage.Page n)) old new = (among ps n ≡ true) × (g.honest new.device → ⊥)

@@ -1,7 +1,7 @@
 //! The pages of the store, all of them in memory, over their device.
 #![tactic(auto)]
 
-ghost use Rattle.std.specs.Prelude.{◌≡◌, ◌≢◌, ◌↔◌, ◌<◌, ◌≤◌, ◌+◌, ◌/◌, ◌%◌, ℕ, true, false, Err, IsSome, IsTrue, IfSome, IfNone, IfErr, IfOk, OnOk, length, replicate, slice_set};
+ghost use Rattle.std.specs.Prelude.{◌≡◌, ◌≢◌, ◌↔◌, ◌<◌, ◌≤◌, ◌+◌, ◌/◌, ◌%◌, ℕ, true, false, Err, Ok, IsSome, IsTrue, IfSome, IfNone, IfErr, IfOk, OnOk, length, replicate, slice_set};
 ghost use Rattle.std.specs.Bool.{OnFalse};
 ghost use Rattle.rq_page.specs.Sizes.{IsCellAddress, page_count, sender_count, client_count, client_slot_at, directory_at, place_of};
 ghost use Rattle.rq_page.specs.Pages.{IsWritten, lsn_of};
@@ -75,7 +75,7 @@ pub struct Pages<P: PageDevice> {
 
 impl<P: PageDevice> Model for Pages<P> {
     ghost use Rattle.rq_pool.specs.Pooled.{Pooled, AreOver};
-    ghost use Rattle.rq_pool.specs.Frames.{changed_of, fixed_of, images_of, in_order};
+    ghost use Rattle.rq_pool.specs.Frames.{IsFirstFixed, changed_of, fixed_of, images_of, in_order};
     ghost use Rattle.rq_pool.specs.Indexed.{IsIndex, closed_groups, free_cells};
     ghost use Rattle.std.specs.Prelude.{None, length};
 
@@ -92,7 +92,8 @@ impl<P: PageDevice> Model for Pages<P> {
 
     ghost invariant = { λ p. AreOver P.PageDevice p.device p.layout (images_of p.frames.items)
         (changed_of p.frames.items) × IsIndex (free_cells p.layout) p.layout (images_of p.frames.items) p.free
-        × IsIndex (closed_groups p.layout) p.layout (images_of p.frames.items) p.closed };
+        × IsIndex (closed_groups p.layout) p.layout (images_of p.frames.items) p.closed
+        × IsFirstFixed (fixed_of p.frames.items) };
 }
 
 /// Pages that could not be had: why, and their device.
@@ -157,8 +158,9 @@ impl<P: PageDevice + Drop> Pages<P> {
 
 impl<P: PageDevice> Pages<P> {
     ghost use Rattle.rq_pool.specs.Writing.{AnswersWhen, DeviceAfter, HasChangeBeyond, IsRedoAt, IsUnwritten, MayHaveSynced, NoChangeBeyond, changed_after};
+    ghost use Rattle.rq_pool.specs.Held.{IsFixed, StandOnce};
     ghost use Rattle.rq_pool.specs.Pooled.{AreOver};
-    ghost use Rattle.rq_pool.specs.Fetching.{AreAllFramed, Fetches, HasReadFor, IsAtHand, IsUnread};
+    ghost use Rattle.rq_pool.specs.Fetching.{AreAllFramed, Fetches, IsAtHand};
 
     /// What is so of the pages of each store, for proofs: it runs no code. Where the device has been honest, each page
     /// that doesn't count as changed reads there as its image.
@@ -171,6 +173,14 @@ impl<P: PageDevice> Pages<P> {
     /// Each page behind the superblock stands in a frame, so no read fails, for proofs: it runs no code.
     pub fn shows_framed(&self)
         ensures { AreAllFramed self.now }
+    {
+        let _layout = self.layout;
+    }
+
+    /// Each page stands in one frame at most, and the superblock is fixed in its own, for proofs: it runs no code.
+    pub fn shows_frames(&self)
+        ensures once { StandOnce self.now.frames }
+        ensures superblock { IsFixed self.now.frames 0 }
     {
         let _layout = self.layout;
     }
@@ -336,10 +346,9 @@ impl<P: PageDevice> Pages<P> {
     /// # Errors
     /// As of `look`.
     pub fn look_at(&mut self, at: Addr) -> Result<bool, Refusal>
+        ensures stands { IsStoreSlot self.old.sizes at → Fetches P.PageDevice (at / 16) self.old result self.new }
         ensures known { IfOk result (λ stands. IsTrue stands ↔ IsStoreSlot self.old.sizes at) }
-        ensures hand { IfOk result (λ stands. IsTrue stands → IsAtHand self.new (at / 16)) }
-        ensures read { HasReadFor P.PageDevice self.old result self.new }
-        ensures causes { IfErr result (λ e. IsUnread P.PageDevice self.old e self.new) }
+        ensures none { (IsStoreSlot self.old.sizes at → ⊥) → (result ≡ Ok false) × (self.new ≡ self.old) }
     {
         let page = at.page();
         if page == 0 || page >= self.layout().pages() as u64 || at.slot() == 0 {

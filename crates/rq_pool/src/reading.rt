@@ -7,7 +7,7 @@ ghost use Rattle.rq_page.specs.Cells.{free_bytes};
 ghost use Rattle.rq_page.specs.Slots.{IsSlotOf};
 ghost use Rattle.rq_page.specs.declared.layout.PageKind.TheVariants as kind;
 ghost use Rattle.rq_pool.specs.Indexed.{IsIndex, closed_groups, free_cells};
-ghost use Rattle.rq_pool.specs.Frames.{images_of, changed_of, fixed_of, IsFirstFixed};
+ghost use Rattle.rq_pool.specs.Frames.{images_of, changed_of, fixed_of, IsFirstAlone, IsFirstFixed};
 ghost use Rattle.rq_pool.specs.Reading.{OnlyRead, IsSuperblock, IsSoundPage, ArePages, AreSeen, StopsFor};
 
 use crate::Frame;
@@ -52,6 +52,7 @@ pub(crate) fn read_frames<P: PageDevice>(
         → AreSeen (P.seen device.old) (images_of read.0.items) (page_count layout.now)) }
     ensures changed { IfOk result (λ read. changed_of read.0.items ≡ replicate (page_count layout.now) false) }
     ensures fixed { IfOk result (λ read. IsFirstFixed (fixed_of read.0.items)) }
+    ensures alone { IfOk result (λ read. IsFirstAlone (fixed_of read.0.items)) }
     ensures free { IfOk result (λ read. IsIndex (free_cells layout.now) layout.now (images_of read.0.items) read.1) }
     ensures closed { IfOk result (λ read. IsIndex (closed_groups layout.now) layout.now (images_of read.0.items) read.2) }
     ensures cause { OnOk result (P.faults device.new ≡ P.faults device.old) }

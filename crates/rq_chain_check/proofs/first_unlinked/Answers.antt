@@ -7,8 +7,7 @@ use Rattle.rq_pool.proofs.Fetched.{read_then, still_read}
 use Rattle.rq_chain_check.specs.Follows.{IsFollowed}
 use Rattle.rq_chain_check.specs.Links.{IsChain}
 use Rattle.rq_chain_check.proofs.Followed.{followed_none, followed_more}
-use Rattle.rq_pool.proofs.Fetched.{over_stored, reads_on, stops_on, stored_after, stored_before}
-use Rattle.rq_chain_check.proofs.Stops.{unread_later}
+use Rattle.rq_pool.proofs.Fetched.{over_stored, reads_on, stops_on, stored_after, stored_before, unread_then}
 use Rattle.rq_chain_check.proofs.first_unlinked.Goals as goal
 
 pub loop-sender-init : goal.loop-sender-init
@@ -57,7 +56,7 @@ pub returns-in-Ok-false-clause-read : goal.returns-in-Ok-false-clause-read
 returns-in-Ok-false-clause-read g c = reads_on g.P.PageDevice _ _ c.args.pages.now c.loop-sender.pages c.follow.new.pages c.loop-sender.invariant.read c.loop-sender.invariant.counted c.in-Ok-false.ensures.read
 
 pub returns-in-Err-clause-refused : goal.returns-in-Err-clause-refused
-returns-in-Err-clause-refused g c = unread_later g.P.PageDevice c.in-Err.refusal c.args.pages.now c.loop-sender.pages c.follow.new.pages c.loop-sender.invariant.read c.in-Err.ensures.refused
+returns-in-Err-clause-refused g c = unread_then g.P.PageDevice c.in-Err.refusal c.args.pages.now c.loop-sender.pages c.follow.new.pages c.loop-sender.invariant.read c.in-Err.ensures.refused
 
 pub returns-in-Err-clause-read : goal.returns-in-Err-clause-read
 returns-in-Err-clause-read g c = stops_on g.P.PageDevice c.in-Err.refusal c.args.pages.now c.loop-sender.pages c.follow.new.pages c.loop-sender.invariant.read c.loop-sender.invariant.counted c.in-Err.ensures.read

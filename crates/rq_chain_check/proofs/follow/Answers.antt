@@ -8,8 +8,7 @@ use Rattle.rq_views.specs.Stored.{slots_in}
 use Rattle.rq_pool.proofs.Fetched.{unfetched_reads}
 use Rattle.rq_chain_check.specs.Follows.{IsFollowed}
 use Rattle.rq_chain_check.specs.Links.{IsChain}
-use Rattle.rq_pool.proofs.Fetched.{over_stored, reads_then, stored_after, stored_before}
-use Rattle.rq_chain_check.proofs.Stops.{unread_later}
+use Rattle.rq_pool.proofs.Fetched.{over_stored, reads_then, stored_after, stored_before, unread_then}
 use Rattle.rq_chain_check.proofs.follow.Goals as goal
 
 pub follow_cells-requires-clause-room : goal.follow_cells-requires-clause-room
@@ -34,7 +33,7 @@ returns-in-Ok-clause-broken g c stored =
     (stored_before g.P.PageDevice old mid new c.follow_cells.ensures.read.read stored) (c.follow_cells.ensures.broken (stored_after g.P.PageDevice old mid new read stored))
 
 pub returns-in-Ok-clause-refused : goal.returns-in-Ok-clause-refused
-returns-in-Ok-clause-refused g c = IfErr-weaker c.follow_cells.result _ _ (λ e not. unread_later g.P.PageDevice e c.args.pages.now c.read_group.new.self c.follow_cells.new.pages c.in-Ok.ensures.fetched.read not) c.follow_cells.ensures.refused
+returns-in-Ok-clause-refused g c = IfErr-weaker c.follow_cells.result _ _ (λ e not. unread_then g.P.PageDevice e c.args.pages.now c.read_group.new.self c.follow_cells.new.pages c.in-Ok.ensures.fetched.read not) c.follow_cells.ensures.refused
 
 pub returns-in-Ok-clause-read : goal.returns-in-Ok-clause-read
 returns-in-Ok-clause-read g c = reads_then g.P.PageDevice c.follow_cells.result c.args.pages.now c.read_group.new.self c.follow_cells.new.pages c.in-Ok.ensures.fetched.read c.in-Ok.ensures.fetched.counted c.follow_cells.ensures.read

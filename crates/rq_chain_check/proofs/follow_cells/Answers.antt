@@ -7,8 +7,7 @@ use Rattle.rq_views.specs.Stored.{slots_in}
 use Rattle.rq_pool.proofs.Fetched.{read_then}
 use Rattle.rq_chain_check.specs.Follows.{IsLinkedCell}
 use Rattle.rq_chain_check.proofs.Options.{none_told, some_told}
-use Rattle.rq_pool.proofs.Fetched.{over_stored, reads_on, stops_on, stored_before}
-use Rattle.rq_chain_check.proofs.Stops.{unread_later}
+use Rattle.rq_pool.proofs.Fetched.{over_stored, reads_on, stops_on, stored_before, unread_then}
 use Rattle.rq_chain_check.proofs.Walks.{walk_goes, walk_stops, ends_whole, ends_broken}
 use Rattle.rq_chain_check.proofs.follow_cells.Goals as goal
 
@@ -73,7 +72,7 @@ pub returns-in-Ok-None-clause-read : goal.returns-in-Ok-None-clause-read
 returns-in-Ok-None-clause-read g c = reads_on g.P.PageDevice _ _ c.args.pages.now c.loop-received.pages c.linked_cell.new.pages c.loop-received.invariant.read c.loop-received.invariant.counted c.in-Ok-None.ensures.read
 
 pub returns-in-Err-clause-refused : goal.returns-in-Err-clause-refused
-returns-in-Err-clause-refused g c = unread_later g.P.PageDevice c.in-Err.refusal c.args.pages.now c.loop-received.pages c.linked_cell.new.pages c.loop-received.invariant.read c.in-Err.ensures.refused
+returns-in-Err-clause-refused g c = unread_then g.P.PageDevice c.in-Err.refusal c.args.pages.now c.loop-received.pages c.linked_cell.new.pages c.loop-received.invariant.read c.in-Err.ensures.refused
 
 pub returns-in-Err-clause-read : goal.returns-in-Err-clause-read
 returns-in-Err-clause-read g c = stops_on g.P.PageDevice c.in-Err.refusal c.args.pages.now c.loop-received.pages c.linked_cell.new.pages c.loop-received.invariant.read c.loop-received.invariant.counted c.in-Err.ensures.read

@@ -7,7 +7,8 @@ use Rattle.rq_planner.specs.Asked.{known, known_from}
 use Rattle.rq_planner.proofs.Gathered.{fewer_left, gathered_more, given_more, wanted_more, wish_slot, withheld}
 use Rattle.rq_planner.proofs.Knowing.{of_store}
 use Rattle.rq_pool.proofs.Fetched.{reads_then, stored_before, stored_images}
-use Rattle.rq_planner.proofs.Readings.{truly_passed}
+use Rattle.rq_planner.proofs.Latches.{freely_more}
+use Rattle.rq_planner.proofs.Readings.{knows_read, truly_passed}
 use Rattle.rq_planner.proofs.gathering.gather.Goals as goal
 
 pub want-requires-clause-given : goal.want-requires-clause-given
@@ -34,6 +35,7 @@ loop-at-preserved g c =
       counted = c.in-Ok.ensures.read.counted ∙ c.loop-at.invariant.counted;
       wanted = wanted_more (wants_of levels n c.args.op.now) old.sizes new.images at slots given c.loop-at.invariant.wanted next more;
       given = given_more old.sizes new.images at slots given c.loop-at.invariant.given more;
+      free = freely_more c.args.transactions.now new.sizes new.images levels n at slots given (knows_read g.P.PageDevice old new levels read c.requires.known) c.requires.level c.loop-at.invariant.free c.in-Ok.ensures.given c.in-Ok.ensures.unlatched;
       gathered = λ true.
           gathered_more s (wants_of levels n) c.args.op.now at slots given next (c.loop-at.invariant.gathered (stored_before g.P.PageDevice old c.loop-at.pages new c.give.ensures.read.read true))
           (subst (λ (i : List (List ℕ)). IsGivenMore old.sizes i at slots given) (stored_images g.P.PageDevice old new read true) more) c.in-Ok.ensures.unlatched;
@@ -62,3 +64,10 @@ returns-in-Err-clause-refusal g c truly =
     withheld (known_from old rows) (wants_of levels n) c.args.op.now (λ given answer. ⊥) c.loop-at.slots at c.in-Err.refusal (c.loop-at.invariant.gathered before) next
     (subst (λ (z : Sizes). IsWithheld (known z old.images rows) at c.in-Err.refusal) (c.loop-at.invariant.read.kept 0).sizes
     (subst (λ (i : List (List ℕ)). IsWithheld (known mid.sizes i rows) at c.in-Err.refusal) (stored_images g.P.PageDevice old mid c.loop-at.invariant.read before) held))
+
+pub returns-in-Err-clause-held : goal.returns-in-Err-clause-held
+returns-in-Err-clause-held g c =
+    let at : ℕ = c.in-Slot.at in
+    let want = λ (i : ℕ). wants_of c.args.levels.now i c.args.op.now c.loop-at.slots in
+    let next : want c.args.op.now.level ≡ Some at = ap want (sym c.level.ensures) ∙ wish_slot _ c.want.result at c.want.ensures c.in-Slot.is in
+    record { given = c.loop-at.slots; at = at; next = next; latch = c.in-Err.ensures.latch }

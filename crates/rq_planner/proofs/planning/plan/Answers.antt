@@ -6,6 +6,7 @@ use Rattle.rq_planner.specs.Asked.{known_from}
 use Rattle.rq_planner.proofs.Choosing.{plan_same}
 use Rattle.rq_planner.proofs.Gathered.{answered, not_from}
 use Rattle.rq_planner.proofs.Knowing.{of_store}
+use Rattle.rq_planner.proofs.Latches.{held_by_latch, plan_unlatched, planned_by_latch}
 use Rattle.rq_planner.proofs.Lawful.{lawful_plan, may_refuse, plan_refused}
 use Rattle.rq_planner.proofs.Readings.{knows_read, reads_answered, reads_passed, truly_done, truly_passed}
 use Rattle.rq_planner.proofs.planning.plan.Goals as goal
@@ -39,6 +40,23 @@ returns-in-Ok-clause-lawful g c =
     lawful_plan c.args.pages.now.sizes c.args.pages.now.images old c.requires.known c.args.op.now c.gather.new.slots c.latched.result.now.pages c.plan-answer.result (kept_at mid c.args.op.now.level) c.requires.level
     (subst (λ (n : ℕ). (meaning_of n).plans (kept_at old n) c.args.op.now c.gather.new.slots c.latched.result.now.pages c.plan-answer.result (kept_at mid n)) c.level.ensures c.plan-answer.ensures.answer)
 
+pub returns-in-Ok-clause-free : goal.returns-in-Ok-clause-free
+returns-in-Ok-clause-free g c =
+    let n = c.args.op.now.level in
+    let old = c.args.levels.now in
+    let mid = c.plan-answer.new.self in
+    plan_unlatched c.args.pages.now.sizes c.args.pages.now.images c.args.transactions.now n (kept_at old n) c.gather.new.slots c.latched.result.now.pages c.latched.ensures c.in-Ok.ensures.free
+    (of_store c.args.pages.now.sizes c.args.pages.now.images old n c.gather.new.slots c.requires.known c.requires.level c.in-Ok.ensures.given) c.args.op.now c.plan-answer.result (kept_at mid n)
+    (subst (λ (i : ℕ). (meaning_of i).plans (kept_at old i) c.args.op.now c.gather.new.slots c.latched.result.now.pages c.plan-answer.result (kept_at mid i)) c.level.ensures c.plan-answer.ensures.answer)
+
+pub returns-in-Ok-clause-latched : goal.returns-in-Ok-clause-latched
+returns-in-Ok-clause-latched g c forward =
+    let n = c.args.op.now.level in
+    let old = c.args.levels.now in
+    let mid = c.plan-answer.new.self in
+    planned_by_latch c.args.pages.now.sizes c.args.pages.now.images c.args.transactions.now old c.requires.known c.args.op.now forward c.gather.new.slots c.latched.result.now.pages c.plan-answer.result (kept_at mid n) c.in-Ok.ensures.free.unlatched
+    (c.in-Ok.ensures.none, subst (λ (i : ℕ). (meaning_of i).plans (kept_at old i) c.args.op.now c.gather.new.slots c.latched.result.now.pages c.plan-answer.result (kept_at mid i)) c.level.ensures c.plan-answer.ensures.answer)
+
 pub returns-in-Ok-clause-causes : goal.returns-in-Ok-clause-causes
 returns-in-Ok-clause-causes g c =
     may_refuse c.plan-answer.result
@@ -60,6 +78,10 @@ returns-in-Ok-clause-answered g c truly =
 
 pub returns-in-Err-clause-read : goal.returns-in-Err-clause-read
 returns-in-Err-clause-read g c = reads_passed g.P.PageDevice c.in-Err.refusal c.in-Err.refusal c.args.pages.now c.gather.new.pages (λ fails. fails) c.in-Err.ensures.read
+
+pub returns-in-Err-clause-latched : goal.returns-in-Err-clause-latched
+returns-in-Err-clause-latched g c forward =
+    held_by_latch c.args.pages.now.sizes c.args.pages.now.images c.args.transactions.now c.args.levels.now c.requires.known c.args.op.now forward c.in-Err.refusal c.in-Err.ensures.held
 
 pub returns-in-Err-clause-answered : goal.returns-in-Err-clause-answered
 returns-in-Err-clause-answered g c truly =

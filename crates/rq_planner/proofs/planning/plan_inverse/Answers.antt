@@ -5,10 +5,12 @@ use Rattle.rq_level.specs.Ops.{Job}
 use Rattle.rq_pool.proofs.Fetched.{still_read}
 use Rattle.rq_planner.specs.Answered.{HasGathered, IsAnswered, MayUndo, level_back, wants_of}
 use Rattle.rq_planner.specs.Asked.{known_from}
+use Rattle.rq_planner.specs.Lawful.{AreFreelyGiven}
 use Rattle.rq_planner.proofs.Choosing.{undo_same}
 use Rattle.rq_planner.proofs.Gathered.{answered, no_memory, none_gathered, not_from}
 use Rattle.rq_planner.proofs.Knowing.{of_store}
-use Rattle.rq_planner.proofs.Lawful.{lawful_inverse, may_refuse, undo_refused}
+use Rattle.rq_planner.proofs.Latches.{inverse_unlatched}
+use Rattle.rq_planner.proofs.Lawful.{few_back, lawful_inverse, may_refuse, undo_refused}
 use Rattle.rq_planner.proofs.Readings.{knows_read, reads_answered, reads_passed, reads_nothing, truly_done, truly_passed}
 use Rattle.rq_planner.proofs.planning.plan_inverse.Goals as goal
 
@@ -64,6 +66,21 @@ returns-in-Ok-gather-clause-lawful g c some =
     let n = level_back c.args.told.now in
     let is : c.level.result ≡ n = c.level.ensures ∙ ap (λ (j : Job). j.level) c.in-Ok.ensures in
     lawful_inverse c.args.pages.now.sizes c.args.pages.now.images old c.requires.known c.args.told.now c.gather.new.slots c.latched.result.now.pages c.undo-answer.result (kept_at mid n) c.requires.level some
+    (subst (λ (i : ℕ). (meaning_of i).undoes (kept_at old i) c.args.told.now c.gather.new.slots c.latched.result.now.pages c.undo-answer.result (kept_at mid i)) is c.undo-answer.ensures.answer)
+
+pub returns-in-Ok-gather-clause-few : goal.returns-in-Ok-gather-clause-few
+returns-in-Ok-gather-clause-few g c =
+    few_back c.level.result (kept_at c.args.levels.now c.level.result) c.args.told.now c.gather.new.slots c.latched.result.now.pages c.undo-answer.result _ c.undo-answer.ensures.answer
+
+pub returns-in-Ok-gather-clause-free : goal.returns-in-Ok-gather-clause-free
+returns-in-Ok-gather-clause-free g c some =
+    let n = level_back c.args.told.now in
+    let old = c.args.levels.now in
+    let mid = c.undo-answer.new.self in
+    let is : c.level.result ≡ n = c.level.ensures ∙ ap (λ (j : Job). j.level) c.in-Ok.ensures in
+    inverse_unlatched c.args.pages.now.sizes c.args.pages.now.images c.args.transactions.now n (kept_at old n) c.gather.new.slots c.latched.result.now.pages c.latched.ensures
+    (subst (λ (j : Job). AreFreelyGiven c.args.transactions.now (meaning_of j.level) (kept_at old j.level) c.gather.new.slots) c.in-Ok.ensures c.in-Ok-gather.ensures.free)
+    (of_store c.args.pages.now.sizes c.args.pages.now.images old n c.gather.new.slots c.requires.known c.requires.level c.in-Ok-gather.ensures.given) c.args.told.now c.undo-answer.result (kept_at mid n) some
     (subst (λ (i : ℕ). (meaning_of i).undoes (kept_at old i) c.args.told.now c.gather.new.slots c.latched.result.now.pages c.undo-answer.result (kept_at mid i)) is c.undo-answer.ensures.answer)
 
 pub returns-in-Ok-gather-clause-causes : goal.returns-in-Ok-gather-clause-causes

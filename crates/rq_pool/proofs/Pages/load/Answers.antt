@@ -7,4 +7,4 @@ returns-in-Err-read_frames-clause-stopped g c =
     stops_later g.P.PageDevice c.args.device c.read_superblock.new.device c.read_frames.new.device c.in-Err-read_frames.refusal c.in-Ok.ensures.device.same c.in-Ok.ensures.cause c.in-Err-read_frames.ensures.err
 
 pub returns-in-Ok-read_frames-clause-loose : goal.returns-in-Ok-read_frames-clause-loose
-returns-in-Ok-read_frames-clause-loose g c = first_loose _ c.in-Ok-read_frames.ensures.fixed
+returns-in-Ok-read_frames-clause-loose g c = first_loose _ c.in-Ok-read_frames.ensures.alone

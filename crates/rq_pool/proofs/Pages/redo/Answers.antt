@@ -20,4 +20,5 @@ invariant_of-self g c =
           high (made.changed c.if-made.true) made.others,
       index_written (free_cells z) z (cells_stand z) _ _ _ _ _ _ _ kept.1 wrote.2 made.others (rw c.deref.ensures.value at cell.noted) cell.others cell.same,
       index_written (closed_groups z) z (groups_stand z) _ _ _ _ _ _ _ kept.2 wrote.2 made.others (rw c.deref-then-made.ensures.value at group.noted) group.others group.same,
+      rw (made.fixed) kept.3,
     )

@@ -19,6 +19,7 @@ invariant_of-self g c =
           high wrote.changed wrote.others,
       index_written (free_cells z) z (cells_stand z) _ _ _ _ _ _ _ kept.1 wrote.page wrote.others (rw c.deref.ensures.value at cell.noted) cell.others cell.same,
       index_written (closed_groups z) z (groups_stand z) _ _ _ _ _ _ _ kept.2 wrote.page wrote.others (rw c.deref-2.ensures.value at group.noted) group.others group.same,
+      rw (wrote.fixed) kept.3,
     )
 
 pub returns-clause-pool : goal.returns-clause-pool

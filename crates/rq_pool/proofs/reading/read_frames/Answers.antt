@@ -3,10 +3,10 @@ use Rattle.std.proofs.lemmas.List.{replicate_more}
 use Rattle.rq_model.specs.declared.refusal.Refusal.TheVariants as why
 use Rattle.rq_disk.specs.Device.{Images}
 use Rattle.rq_page.specs.Sizes.{page_count}
-use Rattle.rq_pool.specs.Frames.{IsFirstFixed, images_of}
+use Rattle.rq_pool.specs.Frames.{IsFirstAlone, IsFirstFixed, fixed_of, images_of}
 use Rattle.rq_pool.specs.Indexed.{closed_groups, free_cells}
 use Rattle.rq_pool.specs.Reading.{IsSuperblock, StopsFor}
-use Rattle.rq_pool.proofs.Fetched.{first_more}
+use Rattle.rq_pool.proofs.Fetched.{first_more, first_stays}
 use Rattle.rq_pool.proofs.Readings.{only_read_on, seen_more, read_more, earlier, stops_later}
 use Rattle.rq_pool.proofs.Indexes.{cells_stand, groups_stand, index_whole, noted_more}
 use Rattle.rq_pool.proofs.reading.read_frames.Goals as goal
@@ -28,7 +28,8 @@ loop-number-preserved g c =
       superblock = earlier old new n page grown i.read.count 0 (omega (arith, c.loop-number.auto.number)) ∙ i.superblock;
       seen = λ h. seen_more old new n page grown i.read.count (P.seen c.args.device.now) (i.seen (read.device.honest h)) (read.ok.0 h ∙ ap (λ (s : Images). s n) i.device.same);
       unchanged = c.in_ok-add_frame-2.ensures.changed ∙ ap (λ (l : List Bool). l ++ false ∷ []) i.unchanged ∙ replicate_more n false;
-      fixed = subst IsFirstFixed (sym c.in_ok-add_frame-2.ensures.fixed) (first_more _ i.fixed);
+      fixed = subst IsFirstFixed (sym c.in_ok-add_frame-2.ensures.fixed) (first_stays (fixed_of c.loop-number.frames.items) i.fixed);
+      alone = subst IsFirstAlone (sym c.in_ok-add_frame-2.ensures.fixed) (first_more (fixed_of c.loop-number.frames.items) i.alone);
       free = noted_more (free_cells z) z (cells_stand z) old new c.loop-number.free c.note_page.new.free n page grown i.read.count i.free (rw c.deref.ensures.value at noted.free) noted.free_others noted.free_same;
       closed = noted_more (closed_groups z) z (groups_stand z) old new c.loop-number.closed c.note_page.new.closed n page grown i.read.count i.closed (rw c.deref.ensures.value at noted.closed) noted.closed_others noted.closed_same;
       faults = read.cause ∙ i.faults;

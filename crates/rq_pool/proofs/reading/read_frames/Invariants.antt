@@ -1,5 +1,5 @@
 use Rattle.std.proofs.Common.{◌≡◌, false, replicate}
-use Rattle.rq_pool.specs.Frames.{images_of, changed_of, fixed_of, IsFirstFixed}
+use Rattle.rq_pool.specs.Frames.{IsFirstAlone, IsFirstFixed, changed_of, fixed_of, images_of}
 use Rattle.rq_pool.specs.Indexed.{closed_groups, free_cells}
 use Rattle.rq_pool.specs.Pooled.{image_at}
 use Rattle.rq_pool.specs.Reading.{OnlyRead, AreSeen}
@@ -16,6 +16,7 @@ invariant-loop-number g l =
       seen : P.honest l.device → AreSeen (P.seen l.fn.device) (images_of l.frames.items) l.number;
       unchanged : changed_of l.frames.items ≡ replicate l.number false;
       fixed : IsFirstFixed (fixed_of l.frames.items);
+      alone : IsFirstAlone (fixed_of l.frames.items);
       free : AreNotedTo (free_cells l.layout) l.layout (images_of l.frames.items) l.free l.number;
       closed : AreNotedTo (closed_groups l.layout) l.layout (images_of l.frames.items) l.closed l.number;
       faults : P.faults l.device ≡ P.faults l.fn.device;

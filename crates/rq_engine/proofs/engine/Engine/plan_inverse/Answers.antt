@@ -1,4 +1,5 @@
-use Rattle.std.proofs.Common.{IfOk, List, subst}
+use Rattle.std.proofs.Common.{IfOk, List, length, refl, subst}
+use Rattle.std.proofs.lemmas.Result.{IfOk-weaker}
 use Rattle.rq_views.specs.InStore.{IsDeedOf}
 use Rattle.rq_level.specs.Asked.{job_back}
 use Rattle.rq_txn.specs.Rows.{Row}
@@ -10,10 +11,12 @@ use Rattle.rq_planner.specs.Asked.Asked.{Undo}
 use Rattle.rq_planner.specs.Lawful.{IsLawfulInverse}
 use Rattle.rq_planner.proofs.Asking.{asks_back, has_place}
 use Rattle.rq_planner.proofs.Knowing.{is_one}
+use Rattle.rq_planner.proofs.Readings.{knows_read}
 use Rattle.rq_level.proofs.EachLevel.{all_lawful}
 use Rattle.rq_engine.specs.Plans.{LevelsAnswer, known_part, to_undo}
-use Rattle.rq_engine.proofs.KeptUp.{counts_still, pages_still}
-use Rattle.rq_engine.proofs.Leveled.{back_refused, few_back, stops_start}
+use Rattle.rq_engine.proofs.Keeping.{kept_read}
+use Rattle.rq_engine.proofs.KeptUp.{plan_counts, plan_reads}
+use Rattle.rq_engine.proofs.Leveled.{few_back}
 use Rattle.rq_engine.proofs.Opened.{state_is}
 use Rattle.rq_engine.proofs.engine.Engine.plan_inverse.Goals as goal
 
@@ -25,10 +28,15 @@ plan_inverse-requires-clause-level g c =
     let told = c.args.told.now in
     is_one c.self.inside.pages.sizes c.self.inside.pages.images c.self.inside.planner (level_back told) c.self.invariant.cells ((all_lawful (level_back told)).reads (job_back told).bytes c.requires.reads)
 
+-- pages were perhaps read
 pub invariant_of-self : goal.invariant_of-self
 invariant_of-self g c =
-    let same = c.plan_inverse.ensures.read.read.stood c.shows_framed.ensures in
-    rw (same) (record { kept = rw (c.spare-room.ensures) c.self.invariant.kept; durable = c.self.invariant.durable; cells = rw (c.plan_inverse.ensures.same) c.self.invariant.cells })
+    let read = c.plan_inverse.ensures.read.read in
+    record {
+      kept = rw (c.spare-room.ensures, (read.kept 0).sizes) (kept_read c.plan_inverse.new.pages.images c.self.invariant.kept);
+      durable = c.self.invariant.durable;
+      cells = rw (c.plan_inverse.ensures.same) (knows_read g.P.PageDevice c.self.inside.pages c.plan_inverse.new.pages c.self.inside.planner read c.self.invariant.cells);
+    }
 
 pub returns-clause-answered : goal.returns-clause-answered
 returns-clause-answered g c honest =
@@ -46,34 +54,11 @@ returns-clause-planned g c honest d told =
     subst (λ (s : State). IsDeedOf s.sizes d → IsPlanned (known_part s) (Undo d) c.plan_inverse.result) (state_is c.self.view_is)
     (subst (λ (rows : List Row). IsDeedOf c.self.inside.pages.sizes d → IsPlanned (known_from c.self.inside.pages rows) (Undo d) c.plan_inverse.result) c.spare-room.ensures (λ own. c.plan_inverse.ensures.planned (framed_reads g.P.PageDevice c.plan_inverse.result c.self.inside.pages c.plan_inverse.new.pages c.shows_framed.ensures c.plan_inverse.ensures.read) (Undo d) (asks_back c.args.told.now d told) (has_place c.self.inside.pages.sizes d own)))
 
--- no page is read
 pub returns-clause-read : goal.returns-clause-read
-returns-clause-read g c = pages_still g.P.PageDevice _ _ (rw (c.spare-room.ensures, c.plan_inverse.ensures.read.read.stood c.shows_framed.ensures) c.self.view_is)
+returns-clause-read g c = plan_reads g.P.PageDevice _ c.args.self.now _ c.self.view_is (rw (c.spare-room.ensures) refl) refl refl c.plan_inverse.ensures.read.read
 
 pub returns-clause-counts : goal.returns-clause-counts
-returns-clause-counts g c =
-    let answered : LevelsAnswer c.args.self.now.state (to_undo c.args.told.now) c.plan_inverse.result =
-    subst (λ (s : State). LevelsAnswer s (to_undo c.args.told.now) c.plan_inverse.result) (state_is c.self.view_is) (record {
-      levels = c.self.inside.planner;
-      knows = c.self.invariant.cells;
-      answered = subst (λ (rows : List Row). IsAnsweredBack (known_from c.self.inside.pages rows) c.self.inside.planner c.args.told.now c.plan_inverse.result) c.spare-room.ensures (c.plan_inverse.ensures.answered (framed_reads g.P.PageDevice c.plan_inverse.result c.self.inside.pages c.plan_inverse.new.pages c.shows_framed.ensures c.plan_inverse.ensures.read));
-    }) in
-    counts_still g.P.PageDevice _ _ (rw (c.spare-room.ensures, c.plan_inverse.ensures.read.read.stood c.shows_framed.ensures) c.self.view_is) c.plan_inverse.result (back_refused c.args.self.now.state c.args.told.now c.plan_inverse.result answered)
-
-pub returns-clause-causes : goal.returns-clause-causes
-returns-clause-causes g c =
-    let answered : LevelsAnswer c.args.self.now.state (to_undo c.args.told.now) c.plan_inverse.result =
-    subst (λ (s : State). LevelsAnswer s (to_undo c.args.told.now) c.plan_inverse.result) (state_is c.self.view_is) (record {
-      levels = c.self.inside.planner;
-      knows = c.self.invariant.cells;
-      answered = subst (λ (rows : List Row). IsAnsweredBack (known_from c.self.inside.pages rows) c.self.inside.planner c.args.told.now c.plan_inverse.result) c.spare-room.ensures (c.plan_inverse.ensures.answered (framed_reads g.P.PageDevice c.plan_inverse.result c.self.inside.pages c.plan_inverse.new.pages c.shows_framed.ensures c.plan_inverse.ensures.read));
-    }) in
-    stops_start c.plan_inverse.result (back_refused c.args.self.now.state c.args.told.now c.plan_inverse.result answered)
+returns-clause-counts g c = plan_counts g.P.PageDevice _ c.args.self.now _ c.self.view_is c.plan_inverse.result c.plan_inverse.ensures.read c.plan_inverse.ensures.causes
 
 pub returns-clause-few : goal.returns-clause-few
-returns-clause-few g c d told own =
-    let s = c.args.self.now.state in
-    let planned : IsPlanned (known_part s) (Undo d) c.plan_inverse.result =
-    subst (λ (s : State). IsDeedOf s.sizes d → IsPlanned (known_part s) (Undo d) c.plan_inverse.result) (state_is c.self.view_is)
-    (subst (λ (rows : List Row). IsDeedOf c.self.inside.pages.sizes d → IsPlanned (known_from c.self.inside.pages rows) (Undo d) c.plan_inverse.result) c.spare-room.ensures (λ own. c.plan_inverse.ensures.planned (framed_reads g.P.PageDevice c.plan_inverse.result c.self.inside.pages c.plan_inverse.new.pages c.shows_framed.ensures c.plan_inverse.ensures.read) (Undo d) (asks_back c.args.told.now d told) (has_place c.self.inside.pages.sizes d own))) own in
-    few_back s d c.plan_inverse.result (subst (λ (s : State). IfOk c.plan_inverse.result (IsLawfulInverse s.sizes)) (state_is c.self.view_is) (c.plan_inverse.ensures.lawful c.requires.reads)) planned
+returns-clause-few g c d told = IfOk-weaker c.plan_inverse.result _ _ (λ p few. few_back d (length p.writes.items) few) (c.plan_inverse.ensures.few d told)

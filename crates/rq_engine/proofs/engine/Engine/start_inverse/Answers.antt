@@ -43,7 +43,7 @@ launch-requires-clause-fits g c =
 pub launch-requires-clause-log : goal.launch-requires-clause-log
 launch-requires-clause-log g c =
     let s = c.args.self.now.state in
-    let few = c.in-Ok.ensures.few c.args.done.now.deed (ap deed_back c.op_end_of.ensures ∙ c.requires.kept.reads) c.requires.kept.sender in
+    let few = c.in-Ok.ensures.few c.args.done.now.deed (ap deed_back c.op_end_of.ensures ∙ c.requires.kept.reads) in
     subst (λ (x : State). HasRoom x c.in-Ok.plan.writes.items) (sym c.in-Ok.ensures.read.lists) (has_room s c.in-Ok.plan.writes.items (undo_cost (Some (op_done c.args.done.now))) c.requires.log few)
 
 pub returns-in-Ok-clause-tried : goal.returns-in-Ok-clause-tried

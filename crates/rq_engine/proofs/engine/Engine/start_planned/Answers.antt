@@ -36,7 +36,7 @@ pub start-requires-clause-inside : goal.start-requires-clause-inside
 start-requires-clause-inside g c =
     let s = c.args.self.now.state in
     let d = c.requires.may.task in
-    let own = c.in-Ok.ensures.own d c.requires.may.is (within s.sizes d c.requires.may.may.inside) in
+    let own = c.in-Ok.ensures.own d c.requires.may.is in
     subst (λ (x : State). IsDeedOf x.sizes (planned_of c.level.result c.in-Ok.plan).deed) (sym c.in-Ok.ensures.read.lists)
     (asked_stored s.sizes d _ (asked_for d c.in-Ok.plan c.level.result (c.level.ensures ∙ asked_of c.args.op.now.level c.args.op.now.bytes d c.requires.may.is) own.asked) c.requires.may.may.inside)
 
@@ -44,15 +44,14 @@ pub start-requires-clause-log : goal.start-requires-clause-log
 start-requires-clause-log g c =
     let s = c.args.self.now.state in
     let d = c.requires.may.task in
-    let own = c.in-Ok.ensures.own d c.requires.may.is (within s.sizes d c.requires.may.may.inside) in
+    let own = c.in-Ok.ensures.own d c.requires.may.is in
     subst (λ (x : State). HasRoom x c.in-Ok.plan.writes.items) (sym c.in-Ok.ensures.read.lists) (has_room s c.in-Ok.plan.writes.items (records_of d) c.requires.may.may.log own.few)
 
 pub returns-in-Ok-clause-tried : goal.returns-in-Ok-clause-tried
 returns-in-Ok-clause-tried g c d e =
     let s = c.args.self.now.state in
     let plan = planned_of c.level.result c.in-Ok.plan in
-    let inside : IsWithin s.sizes d = subst (λ (x : Task). IsWithin s.sizes x) (some_task c.requires.may.task d (sym c.requires.may.is ∙ e)) c.requires.may.may.inside in
-    let own = c.in-Ok.ensures.own d e (within s.sizes d inside) in
+    let own = c.in-Ok.ensures.own d e in
     tried_planned g.P.PageDevice c.args.self.now c.plan.new.self c.start.new.self (HasBegun s c.args.txn c.args.number c.args.end d) (change_row c.args.txn (row_started (under_plan c.args.number plan))) (with_end c.args.txn c.args.end) (c.in-Ok.ensures.read, c.in-Ok.ensures.counts)
     (record { plan = plan; asked = asked_for d c.in-Ok.plan c.level.result (c.level.ensures ∙ asked_of c.args.op.now.level c.args.op.now.bytes d e) own.asked; state = refl })
     c.start.result c.start.ensures.started c.start.ensures.devices c.start.ensures.refusal c.start.ensures.refused
@@ -62,15 +61,11 @@ returns-in-Err-clause-tried g c d e = tried_refused g.P.PageDevice c.args.self.n
 
 pub returns-in-Ok-clause-latched : goal.returns-in-Ok-clause-latched
 returns-in-Ok-clause-latched g c d e =
-    let s = c.args.self.now.state in
-    let inside : IsWithin s.sizes d = subst (λ (x : Task). IsWithin s.sizes x) (some_task c.requires.may.task d (sym c.requires.may.is ∙ e)) c.requires.may.may.inside in
-    latched_then s d c.in-Ok.plan c.start.result c.start.ensures.refusal (c.in-Ok.ensures.own d e (within s.sizes d inside)).latched
+    latched_then c.args.self.now.state d c.in-Ok.plan c.start.result c.start.ensures.refusal (c.in-Ok.ensures.own d e).latched
 
 pub returns-in-Err-clause-latched : goal.returns-in-Err-clause-latched
 returns-in-Err-clause-latched g c d e =
-    let s = c.args.self.now.state in
-    let inside : IsWithin s.sizes d = subst (λ (x : Task). IsWithin s.sizes x) (some_task c.requires.may.task d (sym c.requires.may.is ∙ e)) c.requires.may.may.inside in
-    latched_refused s _ d c.in-Err.refusal (c.in-Err.ensures.own d e (within s.sizes d inside)).latched
+    latched_refused c.args.self.now.state _ d c.in-Err.refusal (c.in-Err.ensures.own d e).latched
 
 pub returns-in-Ok-clause-started : goal.returns-in-Ok-clause-started
 returns-in-Ok-clause-started g c honest d e =

@@ -15,3 +15,6 @@ returns-clause-answered g c truly =
 pub returns-clause-planned : goal.returns-clause-planned
 returns-clause-planned g c truly =
     plan_says c.args.pages.now.sizes c.args.pages.now.images c.args.transactions.now c.args.self.now c.requires.known c.plan.result c.args.op.now c.requires.forward (returns-clause-answered g c truly)
+
+pub returns-clause-latched : goal.returns-clause-latched
+returns-clause-latched g c = c.plan.ensures.latched c.requires.forward
