@@ -53,6 +53,7 @@ pub(crate) fn gather<P: PageDevice, B: Level>(
 }
 
 // Gives a level the slot that it wants.
+#[inline(always)]
 fn give<P: PageDevice>(
     pages: &mut Pages<P>,
     transactions: &Transactions,

@@ -332,6 +332,7 @@ impl<P: PageDevice> Pages<P> {
     ///
     /// # Errors
     /// `DiskRead`; `Damaged`, where the device has lied and gave no page of a store.
+    #[inline(always)]
     pub fn look(&mut self, number: u32) -> Result<(), Refusal>
         requires low { 1 ≤ number }
         requires high { number < page_count self.old.sizes }
@@ -345,6 +346,7 @@ impl<P: PageDevice> Pages<P> {
     ///
     /// # Errors
     /// As of `look`.
+    #[inline(always)]
     pub fn look_at(&mut self, at: Addr) -> Result<bool, Refusal>
         ensures stands { IsStoreSlot self.old.sizes at → Fetches P.PageDevice (at / 16) self.old result self.new }
         ensures known { IfOk result (λ stands. IsTrue stands ↔ IsStoreSlot self.old.sizes at) }
@@ -361,6 +363,7 @@ impl<P: PageDevice> Pages<P> {
     }
 
     /// What stands at an address whose page is at hand.
+    #[inline(always)]
     pub fn slot_at_hand(&self, at: Addr) -> &Slot
         requires place { IsStoreSlot self.now.sizes at }
         requires hand { IsAtHand self.now (at / 16) }
@@ -491,6 +494,7 @@ impl<P: PageDevice> Pages<P> {
     }
 
     // The bytes of a slot.
+    #[inline(always)]
     fn slot_bytes(&self, at: Addr) -> &Slot
         requires { IsStoreSlot self.now.sizes at }
         ensures bytes { result.now ≡ slot_at self.now.images at }
