@@ -16,7 +16,7 @@ use Rattle.rq_engine.specs.declared.event.Event.{Event}
 use Rattle.rq_engine.specs.declared.event.Event.TheVariants as event
 use Rattle.rq_engine.specs.declared.event.Reply.{Reply}
 use Rattle.rq_engine.specs.declared.event.Reply.TheVariants as reply
-use Rattle.rq_engine.specs.KeptUp.{OnRead, reads_pages}
+use Rattle.rq_engine.specs.KeptUp.{OnRead}
 use Rattle.rq_engine.specs.Applied.{BegunSay, CheckpointSays, KeepsOrBased, MayLeave, RefusalLeaves, RunsThrough, StaysWhole}
 use Rattle.rq_engine.specs.Checkpoint.{NotCheckpointed}
 use Rattle.rq_engine.specs.Migration.{NotMigrated}
@@ -25,7 +25,7 @@ use Rattle.rq_engine.specs.Earlier.{IsEarlier, on, over}
 use Rattle.rq_engine.specs.Lists.{ListsSay}
 use Rattle.rq_engine.specs.Opened.{AreHonest, OpenStore}
 use Rattle.rq_engine.specs.Says.{PagesSay, WritesSay, call_of, gave}
-use Rattle.rq_model.specs.Causes.{writes_out}
+use Rattle.rq_model.specs.Causes.{reads_pages, writes_out}
 use Rattle.rq_engine.proofs.Crashing.{IsOnDevice, cuts_over, fit_kept_over}
 use Rattle.rq_engine.proofs.UnknownStay.{base_stays}
 

@@ -40,7 +40,8 @@ use Rattle.rq_engine.specs.declared.event.Event.TheVariants as event
 use Rattle.rq_engine.specs.declared.event.Reply.{Reply}
 use Rattle.rq_engine.specs.declared.event.Reply.TheVariants as reply
 use Rattle.rq_engine.specs.Opened.{AreHonest, OpenStore, WritesWhen, pooled, state_after}
-use Rattle.rq_engine.specs.KeptUp.{PagesStay, RefusalCounts, ReplyCounts, starts_one}
+use Rattle.rq_model.specs.Causes.{starts_one}
+use Rattle.rq_engine.specs.KeptUp.{PagesStay, RefusalCounts, ReplyCounts}
 use Rattle.rq_engine.specs.Says.{PagesSay, WritesSay, call_of, written_by}
 use Rattle.rq_engine.specs.Crash.{AreFit, IsCut, KeepsFit, LeavesCut, RunsThroughCuts, StaysFit, commits_left}
 use Rattle.rq_engine.specs.Earlier.{on, over, rebased, IsEarlier}

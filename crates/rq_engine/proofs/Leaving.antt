@@ -17,12 +17,12 @@ use Rattle.rq_disk.specs.declared.device.LogDevice as log_device
 use Rattle.rq_disk.specs.declared.device.PageDevice as page_device
 use Rattle.rq_pool.specs.Reading.{OnlyRead}
 use Rattle.rq_engine.specs.Applied.{BegunSay, ChangesSay, RefusalLeaves, RefusedBy, RefusedStill, ReplacingSays, TakeBegan, UndoBegan}
-use Rattle.rq_engine.specs.KeptUp.{AnswerCounts, AreButRead, KeepsDevices, KeepsUp, OnRead, RefusedButRead, ReplyCounts, reads_pages, starts_one}
+use Rattle.rq_engine.specs.KeptUp.{AnswerCounts, AreButRead, KeepsDevices, KeepsUp, OnRead, RefusedButRead, ReplyCounts}
 use Rattle.rq_engine.specs.Aborts.{IsUndoBegun, UndoSays}
 use Rattle.rq_engine.specs.Lists.{ListsSay}
 use Rattle.rq_engine.specs.Says.{IsContent, LogSays, PagesSay, begun_reply, call_of, undo_reply}
 use Rattle.rq_engine.proofs.KeptUp.{up_still}
-use Rattle.rq_model.specs.Causes.{writes_out}
+use Rattle.rq_model.specs.Causes.{reads_pages, starts_one, writes_out}
 
 module _ {P L : Type 0} (old new : OpenStore P L) where
   still_plain : (r : Refusal) → new ≡ old → RefusedStill false old r new

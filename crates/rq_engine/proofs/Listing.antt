@@ -25,7 +25,8 @@ use Rattle.rq_engine.specs.Opened.{AreHonest, OpenStore}
 use Rattle.rq_engine.specs.Aborts.{UndoSays}
 use Rattle.rq_engine.specs.Receives.{started_of, undoing_of}
 use Rattle.rq_engine.specs.Says.{begun_reply, call_of, gave, undo_reply}
-use Rattle.rq_engine.specs.KeptUp.{OnRead, reads_pages}
+use Rattle.rq_model.specs.Causes.{reads_pages}
+use Rattle.rq_engine.specs.KeptUp.{OnRead}
 use Rattle.rq_engine.specs.Lists.{IsBegun, IsCommitted, TakeSays, TakeFromSays, ListsSay, done_by}
 use Rattle.rq_engine.specs.declared.event.CommitNo.{CommitNo}
 use Rattle.rq_engine.specs.declared.event.Event.{Event}

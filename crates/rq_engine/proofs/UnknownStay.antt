@@ -4,7 +4,7 @@ use Rattle.rq_model.specs.declared.record.Record.{Record}
 use Rattle.rq_model.specs.Bases.{base_lsn}
 use Rattle.rq_model.specs.declared.refusal.Refusal.{Refusal}
 use Rattle.rq_model.specs.declared.refusal.Refusal.TheVariants as why
-use Rattle.rq_model.specs.Causes.{writes_out}
+use Rattle.rq_model.specs.Causes.{reads_pages, starts_one, writes_out}
 use Rattle.rq_store.specs.State.{State}
 use Rattle.rq_engine.specs.declared.event.Event.{Event}
 use Rattle.rq_engine.specs.declared.event.Event.TheVariants as event
@@ -14,7 +14,7 @@ use Rattle.rq_engine.specs.declared.event.Reply.{Reply}
 use Rattle.rq_engine.specs.declared.event.Reply.TheVariants as reply
 use Rattle.rq_engine.specs.Applied.{BegunSay, RefusalLeaves, RefusedBy, RefusedStill, WriteFails}
 use Rattle.rq_engine.specs.Earlier.{rebased, unknown}
-use Rattle.rq_engine.specs.KeptUp.{OnRead, RefusedBehind, reads_pages, starts_one}
+use Rattle.rq_engine.specs.KeptUp.{OnRead, RefusedBehind}
 use Rattle.rq_engine.specs.Lists.{ListsSay}
 use Rattle.rq_engine.specs.Opened.{OpenStore}
 use Rattle.rq_engine.specs.Says.{call_of}

@@ -30,13 +30,13 @@ use Rattle.rq_engine.specs.Answers.{IsUnderWay}
 use Rattle.rq_engine.specs.Lists.{IsCloseBegun, IsMarkBegun, IsSendBegun, IsTakeBegun, ListsSay, TakeFromSays, TakeSays}
 use Rattle.rq_engine.specs.Sends.{TakesLowest}
 use Rattle.rq_engine.specs.Opened.{OpenStore, AreHonest}
-use Rattle.rq_engine.specs.KeptUp.{AreButRead, ChangesStay, OnRead, RefusedButRead, reads_pages, starts_one}
+use Rattle.rq_engine.specs.KeptUp.{AreButRead, ChangesStay, OnRead, RefusedButRead}
 use Rattle.rq_engine.specs.Checkpoint.{HasMadeOneRecord, IsBeginningOrBase, IsCutOrBased, KeepsFitOrBased, NotCheckpointed}
 use Rattle.rq_engine.specs.Migration.{HasMigrated, IsCutOrGrown, KeepsOrGrows, MayGetTags, NotMigrated}
 use Rattle.rq_engine.specs.Crash.{AreFit, RunsThroughCuts}
 use Rattle.rq_engine.specs.Devices.{Path}
 use Rattle.rq_engine.specs.Says.{RefusedForCause, LogSays, PagesSay, WritesSay, call_of, gave, written_by}
-use Rattle.rq_model.specs.Causes.{writes_out}
+use Rattle.rq_model.specs.Causes.{reads_pages, starts_one, writes_out}
 
 -- what a device that fails in a write leaves of the store: it is stopped; no other call meets such a failure
 abbrev pub WriteFails : {P L : Type 0} → Bool → OpenStore P L → OpenStore P L → Type 0

@@ -1,7 +1,7 @@
 -- What a call that may read pages, and write others out, makes of an open store.
 use Rattle.std.specs.Prelude.{◌≡◌, ℕ, Bool, true, false, List, Some, Result, Ok, Err, IfErr, IfOk, OnErr}
+use Rattle.rq_model.specs.Causes.{reads_pages, starts_one}
 use Rattle.rq_model.specs.History.{Call}
-use Rattle.rq_model.specs.History.Call.{Start_send, Start_receive, Start_receive_from, Start_close, Start_mark, Undo_next, Show}
 use Rattle.rq_model.specs.declared.refusal.Refusal.{Refusal}
 use Rattle.rq_model.specs.declared.refusal.Refusal.TheVariants as why
 use Rattle.rq_model.specs.Tests.{NoneHolds, first_of}
@@ -16,21 +16,6 @@ use Rattle.rq_engine.specs.Opened.{OpenStore, pooled}
 use Rattle.rq_engine.specs.Tested.{tested}
 use Rattle.rq_engine.specs.declared.event.Reply.{Reply}
 use Rattle.rq_engine.specs.declared.event.Reply.TheVariants as reply
-
--- the call starts an operation
-abbrev pub starts_one : Call → Bool
-starts_one (Start_send txn message) = true
-starts_one (Start_receive txn) = true
-starts_one (Start_receive_from txn sender) = true
-starts_one (Start_close txn sender) = true
-starts_one (Start_mark txn client tag) = true
-starts_one (Undo_next txn) = true
-starts_one _ = false
-
--- it may read pages: it starts an operation, or shows the content
-abbrev pub reads_pages : Call → Bool
-reads_pages Show = true
-reads_pages c = starts_one c
 
 -- These are the lists, but that pages which were read again have the images that were read.
 abbrev pub AreButRead : State → State → Type 0

@@ -18,7 +18,8 @@ use Rattle.rq_pool.specs.declared.Written.TheVariants.{Done, Nothing}
 use Rattle.rq_pool.specs.Pooled.{image_at}
 use Rattle.rq_pool.specs.Writing.{DeviceAfter}
 use Rattle.rq_engine.specs.Opened.{OpenStore, NotWritten, WritesWhen}
-use Rattle.rq_engine.specs.KeptUp.{IsShown, PagesStay, ReplyCounts, starts_one}
+use Rattle.rq_model.specs.Causes.{starts_one}
+use Rattle.rq_engine.specs.KeptUp.{IsShown, PagesStay, ReplyCounts}
 use Rattle.rq_engine.specs.declared.event.Progress.{Progress}
 use Rattle.rq_engine.specs.declared.event.Progress.TheVariants as progress
 use Rattle.rq_level.specs.declared.writes.Outcome.{Outcome}

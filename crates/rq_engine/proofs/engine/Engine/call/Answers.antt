@@ -1,9 +1,9 @@
 use Rattle.std.proofs.Common.{List, ap, refl, subst, ℕ}
 use Rattle.rq_engine.specs.Says.{call_of}
 use Rattle.rq_engine.specs.declared.event.Event.{Event}
-use Rattle.rq_model.specs.Causes.{writes_out}
+use Rattle.rq_model.specs.Causes.{reads_pages, writes_out}
 use Rattle.rq_engine.proofs.Applying.{not_leaves}
-use Rattle.rq_engine.specs.KeptUp.{RefusedButRead, reads_pages}
+use Rattle.rq_engine.specs.KeptUp.{RefusedButRead}
 use Rattle.rq_model.specs.History.Call.{Start_send}
 use Rattle.rq_model.specs.Vocabulary.{message_of}
 use Rattle.rq_engine.proofs.Leaving.{plain_leaves, begun_leaves, take_begins, take_counts, undo_begins, undo_counts, undo_leaves}
