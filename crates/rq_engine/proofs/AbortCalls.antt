@@ -181,7 +181,7 @@ none_done s t n running back k =
     (λ e. abort_steps.none_left s r.0 k running (record { at_row = e; idle = r.2.0 }) r.2.2 (last_none r.0.finished r.2.3))
 
 module _ (s : State) (t : Txn) (n : ℕ) (f : Finished) (h : NoneHolds (ready_tests (ledger_of s) t true)) (back : IsTurnedBack s t n (Some f)) where
-  some_left : is_some (newest (found t (ledger_of s).open_ones)) ≡ true
+  pub some_left : is_some (newest (found t (ledger_of s).open_ones)) ≡ true
   some_left = ap (λ o. is_some o) (newest_found s t n (Some f) back)
 
   pub cost_found : undo_cost (newest (found t (ledger_of s).open_ones)) ≡ undo_cost (Some (op_done f))

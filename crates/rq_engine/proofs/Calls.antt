@@ -48,14 +48,15 @@ use Rattle.rq_sound.specs.ModelSteps.{IsModelStep}
 use Rattle.rq_store.proofs.RowLists.{found_in}
 use Rattle.rq_store.proofs.Opens.{busy_is}
 use Rattle.rq_model.specs.Commits.{committed_of}
-use Rattle.rq_engine.proofs.Standing.{going_at, step_steps, finish_steps, commit_steps}
+use Rattle.rq_engine.proofs.Standing.{going_at, refused_steps, step_steps, finish_steps, commit_steps}
 use Rattle.rq_engine.specs.Earlier.{on}
 use Rattle.rq_engine.specs.Invariant.{EndFits, IsConsistent, end_bytes, end_of, room_one, room_of}
 use Rattle.rq_engine.proofs.Waits.{AreDeedsOf, waits-with_sends, waits-without_taken}
 use Rattle.rq_engine.specs.Says.{outcome_of}
 use Rattle.rq_engine.specs.Answers.{Refuses, OnUnder, IsUnderWay, IsNotUnderWay, NotFound, IsOther, Idle, CannotFinish, IsMade, HasNothingUnderWay}
 use Rattle.rq_engine.proofs.Keeping.{kept_at, under_at, kept_stepped, kept_finished, kept_undone, kept_committed}
-use Rattle.rq_engine.proofs.Refusals.{refuse, refuse_failed, found_of, found_some, found_none, not_full}
+use Rattle.rq_content.specs.Read.{IsNoDamage}
+use Rattle.rq_engine.proofs.Refusals.{refuse, refuse_failed, found_of, found_some, found_none, no_memory, not_full}
 
 -- the row and the operation that are going
 pub record Going (s : State) (sub : Sub) (P : Row → Under → Type 0) : Type 0 where
@@ -356,6 +357,13 @@ client_told s c count tag running below counted tagged k =
 -- the content
 pub content_passes : (s : State) → s.failed ≡ false → any_under s.rows ≡ false → Passes (size_of s.sizes) (ledger_of s) Show
 content_passes s running idle = (ap (λ b. not (runs (phase_of b))) running, (busy_is s.ends s.rows ∙ idle, tt))
+
+-- memory is wanting, or a page could not be read
+pub content_refused : (s : State) → s.failed ≡ false → any_under s.rows ≡ false → (r : Refusal) → IsNoDamage r → Refuses s Show r
+content_refused s running idle r none = elim none [
+  | inl memory ↦ subst (Refuses s Show) (sym memory) (no_memory s Show running (λ _. content_passes s running idle) (λ _. refl))
+  | inr read ↦ subst (Refuses s Show) (sym read) (λ k. (refused_steps s k Show why.DiskRead (ap (λ b. runs (phase_of b)) running) refl, refl))
+]
 
 pub content_done : (s : State) (groups : List Group) → s.failed ≡ false → any_under s.rows ≡ false → groups ≡ map (group_in (committed_of s.records)) (below (sender_count s.sizes)) → IsSound s → IsModelStep s Show (Gave_content groups) s
 content_done s groups running idle e k = record {

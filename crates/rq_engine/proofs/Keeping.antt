@@ -162,7 +162,7 @@ module _ (s : State) (f : Bool) (o res : ℕ) (k : IsConsistent s f o res) (t : 
         room = (let w = k.room in omega (arith, b, d, v, w, fits, more));
         count = (let w = k.count in omega (arith, same, w));
         distinct = distinct_change t row_stepped s.rows (λ q. refl) k.distinct;
-        rows = changed_rows row_stepped (length (x ∷ s.records) + owed_by (change_row t row_stepped s.rows)) (λ q. refl) (omega (arith, same)) (record { mine = row.mine; low = row.low; high = row.high; number = (let n = row.number in omega (arith, n, same)); done = row.done; under = subst (λ (y : Option Under). UnderConsistent s.sizes (under_stepped y)) (sym under) (record { number = h.number; made = omega (arith, more); slots = h.slots; sender = h.sender; fits = h.fits }) });
+        rows = changed_rows row_stepped (length (x ∷ s.records) + owed_by (change_row t row_stepped s.rows)) (λ q. refl) (omega (arith, same)) (record { mine = row.mine; low = row.low; high = row.high; number = (let n = row.number in omega (arith, n, same)); done = row.done; under = subst (λ (y : Option Under). UnderConsistent s.sizes (under_stepped y)) (sym under) (record { number = h.number; made = omega (arith, more); few = h.few; slots = h.slots; sender = h.sender; fits = h.fits }) });
         senders = k.senders;
         few = λ g. (let c = rows_sum done_one t row_stepped s.rows (λ q i e. refl) in let d = k.few g in omega (arith, c, d));
         sent = sends_on k.sent (let c = rows_sum done_one t row_stepped s.rows (λ q i e. refl) in omega (arith, c));

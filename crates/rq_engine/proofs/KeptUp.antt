@@ -1,5 +1,5 @@
 -- Open stores that are kept up.
-use Rattle.std.proofs.Common.{◌≡◌, ℕ, Bool, true, false, List, refl, sym, ap, subst, ◌∙◌, ⊎_elim, Result, Ok, Err, IfErr, ◌+◌, ◌%◌, ◌^◌, ◌<◌}
+use Rattle.std.proofs.Common.{◌≡◌, ℕ, Bool, true, false, List, refl, sym, ap, subst, ◌∙◌, Result, Ok, Err, IfErr, ◌+◌, ◌%◌, ◌^◌, ◌<◌}
 use Rattle.rq_disk.specs.declared.device.LogDevice as log_device
 use Rattle.rq_disk.specs.declared.device.PageDevice as page_device
 use Rattle.rq_model.specs.declared.refusal.Refusal.{Refusal}
@@ -8,35 +8,61 @@ use Rattle.rq_model.specs.declared.refusal.Damage.TheVariants.{Page}
 use Rattle.rq_model.specs.declared.txn.Txn.{Txn}
 use Rattle.rq_model.specs.History.{Call}
 use Rattle.rq_model.specs.Tests.{NoneHolds}
-use Rattle.rq_content.specs.Read.{IsNoDamage, StopsFor}
+use Rattle.rq_content.specs.Read.{StopsFor}
 use Rattle.rq_groups.specs.declared.End.{End}
 use Rattle.rq_groups.specs.Sides.{with_end}
 use Rattle.rq_page.specs.Sizes.{Sizes, page_count}
-use Rattle.rq_planner.specs.Answered.{IsDeedFor}
+use Rattle.rq_planner.specs.Answered.{IsDeedFor, KnowsCells}
 use Rattle.rq_planner.specs.Asked.{Task}
 use Rattle.rq_planner.specs.Lawful.{MayRefuse}
 use Rattle.rq_pool.proofs.Fetched.{read_none, read_then, still_read}
 use Rattle.rq_pool.proofs.KeptUp.{kept_still, kept_then}
-use Rattle.rq_pool.specs.Fetching.{AreAllFramed, HasReadFor, MayHaveRead}
+use Rattle.rq_pool.specs.Fetching.{HasFailed, HasReadFor, MayHaveRead}
 use Rattle.rq_pool.specs.Pooled.{Pooled}
 use Rattle.rq_store.specs.State.{State}
 use Rattle.rq_txn.specs.Rows.{Row, change_row, row_started}
 use Rattle.rq_engine.specs.Answers.{HasNothingUnderWay}
 use Rattle.rq_model.specs.Causes.{starts_one}
-use Rattle.rq_engine.specs.KeptUp.{AreButRead, KeepsDevices, KeepsUp, RefusalCounts, RefusedBehind, RefusedButRead, with_images_of, HasReadPages, HasReadSoFar, HasTried, AnswerCounts}
+use Rattle.rq_engine.specs.KeptUp.{AreButRead, KeepsDevices, KeepsUp, RefusalCounts, RefusedBehind, RefusedButRead, with_images_of, HasReadPages, HasReadSoFar, HasTried, AnswerCounts, IsLeftBy, MayRefuseStart, StartLeaves, failed_by}
+use Rattle.rq_engine.specs.Frames.{IsForFrames, NotBegun}
+use Rattle.rq_level.specs.LevelState.{LevelState}
+use Rattle.rq_planner.proofs.Knowing.{knows_kept}
+use Rattle.rq_pool.specs.Want.{NotFixed}
 use Rattle.rq_engine.specs.Lists.{DoesTask, IsStarted}
 use Rattle.rq_engine.specs.Opened.{AreHonest, LeavesDevices, OpenStore, pooled}
 use Rattle.rq_engine.specs.Plans.{Planned, under_plan, is_latched}
 use Rattle.rq_engine.specs.Tested.{tested}
-use Rattle.std.specs.Prelude.{OnErr, OnOk}
-use Rattle.std.proofs.lemmas.Bool.{false≢true}
+use Rattle.std.specs.Prelude.{OnOk}
+use Rattle.std.proofs.lemmas.Bool.{false≢true, true≢false}
 use Rattle.rq_groups.specs.Ends.{HeldEnds}
 use Rattle.rq_pool.specs.Held.{Held, IsFramed}
-use Rattle.rq_pool.specs.KeptUp.{IsKeptUp}
+use Rattle.rq_pool.specs.KeptUp.{IsForced, IsKeptUp}
+use Rattle.rq_disk.specs.Device.{PageAsk}
+use Rattle.rq_disk.specs.Device.PageAsk.{Reads, Writes}
 
 -- lists but for images, over images that stayed
 pub but_same : (lists new : State) → AreButRead lists new → new.images ≡ lists.images → new ≡ lists
 but_same lists new but same = but ∙ ap (λ (i : List (List _)). record lists { images = i }) same
+
+-- a start may be refused as there may be no plan
+pub may_start : (r : Refusal) → MayRefuse r → MayRefuseStart r
+may_start why.NoMemory m = tt
+may_start why.Latched m = tt
+may_start why.DiskRead m = tt
+may_start (why.Damaged d) m = tt
+may_start _ m = absurd m
+
+-- what did not begin leaves the lists so
+left_then : (old mid : State) (r : Refusal) (new : State) → AreButRead old mid → IsLeftBy mid r new → IsLeftBy old r new
+left_then old mid r new but left = left ∙ ap (λ (s : State). record s { failed = failed_by s.failed r; images = new.images }) but
+
+not_begun_may : (H : Type 0) (r : Refusal) → NotBegun H r → MayRefuseStart r
+not_begun_may H why.NoMemory n = tt
+not_begun_may H why.PoolFull n = tt
+not_begun_may H why.DiskRead n = tt
+not_begun_may H why.DiskWrite n = tt
+not_begun_may H (why.Damaged d) n = tt
+not_begun_may H _ n = absurd n
 
 module _ {P L : Type 0} (g : page_device.Ghosts P) where
   -- no device was called
@@ -88,9 +114,13 @@ module _ {P L : Type 0} (g : page_device.Ghosts P) where
       (kept_then g old.state.forced (pooled old) (pooled mid) (pooled new) (a.pages.kept old.state.forced) (subst (λ (n : ℕ). IsKeptUp g n (pooled mid) (pooled new)) forced b.0), b.1 ∙ a.log, b.2 ∙ a.replacing)
 
   -- and a failure is the first
-  pub counts_then : (old mid new : OpenStore P L) → HasReadSoFar g old mid → (r : Refusal) → MayRefuse r → RefusalCounts g r mid new → RefusalCounts g r old new
+  failed_then : (old mid new : OpenStore P L) (ask : PageAsk) → HasReadSoFar g old mid → HasFailed g ask mid.pages new.pages → HasFailed g ask old.pages new.pages
+  failed_then old mid new ask a c = record { once = c.once ∙ ap (λ n. (n + 1) % 2 ^ 64) a.1; before = c.before; none = c.none ∙ a.1; excused = c.excused }
+
+  pub counts_then : (old mid new : OpenStore P L) → HasReadSoFar g old mid → (r : Refusal) → MayRefuseStart r → RefusalCounts g r mid new → RefusalCounts g r old new
   counts_then old mid new a why.NoMemory stops c = c ∙ a.1
   counts_then old mid new a why.Latched stops c = c ∙ a.1
+  counts_then old mid new a why.PoolFull stops c = c ∙ a.1
   counts_then old mid new a (why.Damaged d) stops c = c ∙ a.1
   counts_then old mid new a why.DiskRead stops c = (
     record {
@@ -99,44 +129,115 @@ module _ {P L : Type 0} (g : page_device.Ghosts P) where
       within = subst (λ (z : Sizes). c.0.page < page_count z) (a.0.pages.kept 0).sizes c.0.within;
       outside = λ framed. c.0.outside (subst (λ (f : List Held). IsFramed f c.0.page) (sym a.0.pages.frames) framed);
     },
-    record { once = c.1.once ∙ ap (λ n. (n + 1) % 2 ^ 64) a.1; before = c.1.before; none = c.1.none ∙ a.1; excused = c.1.excused },
+    failed_then old mid new (Reads c.0.page) a c.1,
   )
+  counts_then old mid new a why.DiskWrite stops c =
+      let forced : mid.state.forced ≡ old.state.forced = ap (λ (s : State). s.forced) a.0.lists in
+      (c.0, c.1, subst (λ (n : ℕ). IsForced g n (pooled new) c.0 c.1) forced c.2, failed_then old mid new (Writes c.0 c.1) a c.3)
   counts_then old mid new a _ stops c = absurd stops
 
   -- ---- starts
 
+  -- pages were read, and nothing else happened
+  pub read_leaves : (old new : OpenStore P L) (r : Refusal) → MayRefuse r → HasReadPages g old new → StartLeaves g old r new
+  read_leaves old new why.NoMemory m h = h.lists
+  read_leaves old new why.Latched m h = h
+  read_leaves old new why.DiskRead m h = h.lists
+  read_leaves old new (why.Damaged d) m h = h.lists
+  read_leaves old new _ m h = absurd m
+
+  -- what did not begin was not held up by latches
+  not_begun_leaves : (H : Type 0) (old new : OpenStore P L) (r : Refusal) → NotBegun H r → IsLeftBy old.state r new.state → StartLeaves g old r new
+  not_begun_leaves H old new why.NoMemory n left = left
+  not_begun_leaves H old new why.PoolFull n left = left
+  not_begun_leaves H old new why.DiskRead n left = left
+  not_begun_leaves H old new why.DiskWrite n left = left
+  not_begun_leaves H old new (why.Damaged d) n left = left
+  not_begun_leaves H old new _ n left = absurd n
+
+  leaves_then : (old mid new : OpenStore P L) (r : Refusal) → HasReadSoFar g old mid → StartLeaves g mid r new → StartLeaves g old r new
+  leaves_then old mid new why.Latched a left = pages_then old mid new a.0 left
+  leaves_then old mid new r a left = left_then old.state mid.state r new.state a.0.lists left
+
+  -- the lists that a refused start leaves, but for images, and all of them over an honest device
+  pub start_lists : (old new : OpenStore P L) (r : Refusal) → StartLeaves g old r new → IsLeftBy old.state r new.state
+  start_lists old new why.Latched left = left.lists
+  start_lists old new r left = left
+
+  pub start_left : (old new : OpenStore P L) (r : Refusal) → KeepsDevices g old new → StartLeaves g old r new → g.honest new.pages → new.state ≡ record old.state { failed = failed_by old.state.failed r }
+  start_left old new r devices left honest = but_same (record old.state { failed = failed_by old.state.failed r }) new.state (start_lists old new r left) (devices.0.images honest)
+
   module _ {X : Type 0} where
     -- what was refused has begun nothing
     pub tried_refused : (old new : OpenStore P L) (HasBegun : State → Type 0) (r : Refusal) → HasReadPages g old new → RefusalCounts g r old new → MayRefuse r → HasTried {X = X} g old HasBegun (Err r) new
-    tried_refused old new HasBegun r read counts causes = record { devices = read_devices old new read; counts = counts; begun = tt; read = read; causes = causes }
+    tried_refused old new HasBegun r read counts causes = record { devices = read_devices old new read; counts = counts; begun = tt; left = read_leaves old new r causes read; causes = may_start r causes }
 
-    -- What was planned begins, or memory is wanting: it changes rows and ends alone.
-    pub tried_planned : (old mid new : OpenStore P L) (HasBegun : State → Type 0) (rows : List Row → List Row) (ends : HeldEnds → HeldEnds) → HasReadSoFar g old mid → HasBegun (record old.state { rows = rows old.state.rows; ends = ends old.state.ends })
-        → (answer : Result X Refusal) → OnOk answer (new.state ≡ record mid.state { rows = rows mid.state.rows; ends = ends mid.state.ends }) → LeavesDevices mid new → IfErr answer (λ r. r ≡ why.NoMemory) → OnErr answer (new ≡ mid) → HasTried g old HasBegun answer new
-    tried_planned old mid new HasBegun rows ends read begun (Ok x) is left memory same = record {
-      devices = devices_then old mid new read.0 (devices_still mid new left (ap (λ (s : State). s.sizes) is) (ap (λ (s : State). s.images) is));
-      counts = ap g.faults left.0 ∙ read.1;
+    -- What was planned begins, or does not: it changes rows and ends alone.
+    pub tried_planned : (H : Type 0) (old mid new : OpenStore P L) (HasBegun : State → Type 0) (rows : List Row → List Row) (ends : HeldEnds → HeldEnds) → HasReadSoFar g old mid → HasBegun (record old.state { rows = rows old.state.rows; ends = ends old.state.ends })
+        → (answer : Result X Refusal) → OnOk answer (AreButRead (record mid.state { rows = rows mid.state.rows; ends = ends mid.state.ends }) new.state) → KeepsDevices g mid new → AnswerCounts g answer mid new → IfErr answer (λ r. IsLeftBy mid.state r new.state) → IfErr answer (NotBegun H) → HasTried g old HasBegun answer new
+    tried_planned H old mid new HasBegun rows ends read begun (Ok x) is devices counts left causes = record {
+      devices = devices_then old mid new read.0 devices;
+      counts = counts ∙ read.1;
       begun = subst HasBegun (sym (ap (with_images_of old.state) is ∙ ap (λ (s : State). record s { rows = rows s.rows; ends = ends s.ends; images = old.state.images }) read.0.lists)) begun;
-      read = tt;
+      left = tt;
       causes = tt;
     }
-    tried_planned old mid new HasBegun rows ends read begun (Err r) is left memory same =
-        let back : HasReadPages g old new = subst (λ (s : OpenStore P L). HasReadPages g old s) (sym same) read.0 in
-        subst (λ (e : Refusal). HasTried {X = X} g old HasBegun (Err e) new) (sym memory) (tried_refused old new HasBegun why.NoMemory back (ap g.faults left.0 ∙ read.1) tt)
+    tried_planned H old mid new HasBegun rows ends read begun (Err r) is devices counts left causes = record {
+      devices = devices_then old mid new read.0 devices;
+      counts = counts_then old mid new read r (not_begun_may H r causes) counts;
+      begun = tt;
+      left = not_begun_leaves H old new r causes (left_then old.state mid.state r new.state read.0.lists left);
+      causes = not_begun_may H r causes;
+    }
 
     -- a start that is tried behind others
     pub tried_then : (old mid new : OpenStore P L) (A B : State → Type 0) → HasReadSoFar g old mid → ((s : State) → A (with_images_of mid.state s) → B (with_images_of old.state s)) → (answer : Result X Refusal) → HasTried g mid A answer new → HasTried g old B answer new
-    tried_then old mid new A B read same (Ok x) h = record { devices = devices_then old mid new read.0 h.devices; counts = h.counts ∙ read.1; begun = same new.state h.begun; read = tt; causes = tt }
-    tried_then old mid new A B read same (Err r) h = tried_refused old new B r (pages_then old mid new read.0 h.read) (counts_then old mid new read r h.causes h.counts) h.causes
+    tried_then old mid new A B read same (Ok x) h = record { devices = devices_then old mid new read.0 h.devices; counts = h.counts ∙ read.1; begun = same new.state h.begun; left = tt; causes = tt }
+    tried_then old mid new A B read same (Err r) h = record {
+      devices = devices_then old mid new read.0 h.devices;
+      counts = counts_then old mid new read r h.causes h.counts;
+      begun = tt;
+      left = leaves_then old mid new r read h.left;
+      causes = h.causes;
+    }
 
     -- one that latches hold up has read pages, and that is all
     pub tried_latched : (old new : OpenStore P L) (A : State → Type 0) (answer : Result X Refusal) → is_latched answer ≡ true → HasTried g old A answer new → HasReadSoFar g old new
     tried_latched old new A (Ok x) latched h = absurd (false≢true latched)
-    tried_latched old new A (Err why.Latched) latched h = (h.read, h.counts)
+    tried_latched old new A (Err why.Latched) latched h = (h.left, h.counts)
     tried_latched old new A (Err _) latched h = absurd (false≢true latched)
 
     pub tried_held : (old new : OpenStore P L) (A : State → Type 0) → HasReadSoFar g old new → HasTried {X = X} g old A (Err why.Latched) new
     tried_held old new A read = tried_refused old new A why.Latched read.0 read.1 tt
+
+-- levels go on knowing the slots of pages that are kept up
+pub knows_kept_up : {P : Type 0} (g : page_device.Ghosts P) (forced : ℕ) (old new : Pooled P) (levels : List LevelState) → IsKeptUp g forced old new → KnowsCells old.sizes old.images levels → KnowsCells new.sizes new.images levels
+knows_kept_up g forced old new levels kept h = subst (λ (z : Sizes). KnowsCells z new.images levels) (sym kept.sizes) (knows_kept old.sizes old.images new.images kept.flags levels h)
+
+-- a store that has not failed had not before
+pub not_failed_by : (failed : Bool) (r : Refusal) → failed_by failed r ≡ false → failed ≡ false
+not_failed_by failed why.DiskWrite e = absurd (true≢false e)
+not_failed_by failed _ e = e
+
+-- why pages could not be fixed
+module _ {P : Type 0} (g : page_device.Ghosts P) (forced : ℕ) (ps : List ℕ) where
+  pub not_fixed_causes : (old new : Pooled P) (r : Refusal) → NotFixed g forced ps r old new → NotBegun (g.honest new.device) r
+  not_fixed_causes old new why.PoolFull n = tt
+  not_fixed_causes old new why.DiskRead n = tt
+  not_fixed_causes old new why.DiskWrite n = tt
+  not_fixed_causes old new (why.Damaged (Page p)) n = n.1
+  not_fixed_causes old new _ n = absurd n
+
+  pub not_fixed_frames : (X : Type 0) (old new : Pooled P) (r : Refusal) → NotFixed g forced ps r old new → IsForFrames {X = X} old forced ps (Err r)
+  not_fixed_frames X old new why.PoolFull n = n.0
+  not_fixed_frames X old new _ n = tt
+
+pub not_fixed_counts : {P L : Type 0} (g : page_device.Ghosts P) (ps : List ℕ) (old new : OpenStore P L) (r : Refusal) → NotFixed g old.state.forced ps r (pooled old) (pooled new) → RefusalCounts g r old new
+not_fixed_counts g ps old new why.PoolFull n = n.1
+not_fixed_counts g ps old new why.DiskRead n = (n.0, n.2)
+not_fixed_counts g ps old new why.DiskWrite n = n
+not_fixed_counts g ps old new (why.Damaged (Page p)) n = n.2
+not_fixed_counts g ps old new _ n = absurd n
 
 -- what a call leaves that has something planned, and nothing else done
 module _ {P L : Type 0} (g : page_device.Ghosts P) (inside old new : OpenStore P L) (is : inside ≡ old) where
@@ -160,14 +261,16 @@ module _ {P L : Type 0} (g : page_device.Ghosts P) (inside old new : OpenStore P
   plan_counts answer read causes = subst (λ (o : OpenStore P L). AnswerCounts g answer o new) is (counts_of answer read causes)
 
 -- it is refused behind its tests
-pub tried_leaves : {P L : Type 0} (old new : OpenStore P L) (c : Call) → starts_one c ≡ true → NoneHolds (tested old.state c) → (r : Refusal) → MayRefuse r → AreButRead old.state new.state → RefusedButRead c old r new
-tried_leaves old new c starts passed r causes lists = subst (λ (b : Bool). RefusedBehind b (tested old.state c) old r new) (sym starts) (at (tested old.state c) passed r causes) where
-  at : (tests : List (Bool × Refusal)) → NoneHolds tests → (r : Refusal) → MayRefuse r → RefusedBehind true tests old r new
-  at tests passed why.NoMemory causes = (passed, lists)
-  at tests passed why.Latched causes = (passed, lists)
-  at tests passed why.DiskRead causes = (passed, lists)
-  at tests passed (why.Damaged d) causes = (passed, lists)
-  at tests passed _ causes = absurd causes
+pub tried_leaves : {P L : Type 0} (g : page_device.Ghosts P) (old new : OpenStore P L) (c : Call) → starts_one c ≡ true → NoneHolds (tested old.state c) → (r : Refusal) → MayRefuseStart r → StartLeaves g old r new → RefusedButRead c old r new
+tried_leaves g old new c starts passed r causes left = subst (λ (b : Bool). RefusedBehind b (tested old.state c) old r new) (sym starts) (at (tested old.state c) passed r causes left) where
+  at : (tests : List (Bool × Refusal)) → NoneHolds tests → (r : Refusal) → MayRefuseStart r → StartLeaves g old r new → RefusedBehind true tests old r new
+  at tests passed why.NoMemory causes left = (passed, left)
+  at tests passed why.Latched causes left = (passed, left.lists)
+  at tests passed why.PoolFull causes left = (passed, left)
+  at tests passed why.DiskRead causes left = (passed, left)
+  at tests passed why.DiskWrite causes left = (passed, left)
+  at tests passed (why.Damaged d) causes left = (passed, left)
+  at tests passed _ causes left = absurd causes
 
 -- what has begun: it is to do what was asked
 pub begun_by : (s : State) (t : Txn) (n : ℕ) (end : End) (cells : ℕ) (task : Task) (plan : Planned) (new : State) → HasNothingUnderWay s t n → IsDeedFor task plan.deed
@@ -202,8 +305,3 @@ module _ {P L : Type 0} (g : page_device.Ghosts P) (rows : List Row) where
 
   pub content_counts : (inside old new : OpenStore P L) → inside ≡ old → (r : Refusal) → StopsFor g rows (pooled inside) r (pooled new) → RefusalCounts g r old new
   content_counts inside old new is r stops = subst (λ (o : OpenStore P L). RefusalCounts g r o new) is (counted_of inside new r stops)
-
--- No read fails where each page stands in a frame.
-pub none_outside : {P : Type 0} (g : page_device.Ghosts P) (rows : List Row) (old new : Pooled P) (r : Refusal) → AreAllFramed old → StopsFor g rows old r new → IsNoDamage r → r ≡ why.NoMemory
-none_outside g rows old new r all stops none = ⊎_elim (λ memory. memory) (λ (failed : r ≡ why.DiskRead).
-    let outside = (subst (λ (e : Refusal). StopsFor g rows old e new) failed stops).0 in absurd (outside.outside (all outside.page outside.behind outside.within))) none

@@ -1,7 +1,7 @@
 -- What the level plans, as the engine's starts have it.
-use Rattle.std.proofs.Common.{◌≡◌, ◌≢◌, ℕ, ◌+◌, ◌/◌, ◌%◌, ◌<◌, ◌≤◌, cond, nat_eq, nat_lt, List, [], ◌∷◌, length, refl, sym, ◌∙◌, ap, subst, inl, inr, true, false, Option, Some, None, Result, Ok, Err, arith, Bool}
+use Rattle.std.proofs.Common.{◌≡◌, ◌≢◌, ℕ, ◌+◌, ◌/◌, ◌%◌, ◌<◌, ◌≤◌, cond, nat_eq, nat_lt, List, [], ◌∷◌, length, refl, sym, ◌∙◌, ap, subst, inl, inr, true, false, Option, Some, None, Result, Ok, Err, arith, Bool, ◌⊎◌}
 use Rattle.std.specs.Prelude.{IfErr, OnOk, IfOk}
-use Rattle.std.proofs.lemmas.Bool.{cases_Bool, false_from_ne_true, ltb-true, or_cases, false≢true, true≢false}
+use Rattle.std.proofs.lemmas.Bool.{cases_Bool, false_from_ne_true, ltb-true, or_cases, or_right, false≢true, true≢false}
 use Rattle.rq_model.specs.declared.record.Deed.{Deed}
 use Rattle.rq_model.specs.declared.refusal.Refusal.{Refusal}
 use Rattle.rq_model.specs.declared.refusal.Refusal.TheVariants as why
@@ -12,7 +12,12 @@ use Rattle.rq_model.specs.Deeds.{deed_by, spelled_deed, TellsItself}
 use Rattle.rq_model.proofs.Deeds.{told_by_its_level}
 use Rattle.rq_model.specs.Commits.{op_of}
 use Rattle.rq_model.specs.Content.{said}
-use Rattle.rq_model.specs.Tests.{undo_cost}
+use Rattle.rq_model.specs.Causes.{may_write, reads_pages, starts_one, writes_out}
+use Rattle.rq_model.specs.History.{Call}
+use Rattle.rq_model.specs.History.Call.{Show}
+use Rattle.rq_model.specs.Ledger.{runs}
+use Rattle.rq_model.specs.Replay.Reply.{Gave_refusal}
+use Rattle.rq_model.specs.Tests.{Passes, undo_cost, starts as starts_in}
 use Rattle.rq_page.specs.declared.cell.Cell.{Cell}
 use Rattle.rq_page.specs.declared.cell.CellSlot.{CellSlot}
 use Rattle.rq_page.specs.declared.layout.PageKind.{PageKind}
@@ -38,21 +43,31 @@ use Rattle.rq_txn.specs.declared.Aim.TheVariants as aims
 use Rattle.rq_txn.specs.Rows.{latched_in}
 use Rattle.rq_txn.specs.Told.{IsTold}
 use Rattle.rq_store.specs.Plans.{IsSendPlan, IsTakePlan, WaitsFor}
-use Rattle.rq_store.specs.State.{State}
+use Rattle.rq_store.specs.State.{State, ledger_of, phase_of, size_of}
+use Rattle.rq_sound.specs.ModelSteps.{IsModelStep}
 use Rattle.rq_sound.specs.Groups.{slots_now}
 use Rattle.rq_sound.specs.Plans.{IsMarking, IsPlannedFrom, IsReceive, IsSend}
 use Rattle.rq_sound.specs.Sound.{IsSound}
-use Rattle.rq_planner.specs.Answered.{IsDeedFor, IsHeldUp, IsPlanOf, MayBeAsked, RefusesPlan, deed_of}
+use Rattle.rq_planner.specs.Answered.{IsDeedFor, IsHeldUp, IsPlanOf, IsPlanned, MayBeAsked, RefusesPlan, deed_of}
 use Rattle.rq_planner.specs.Asked.{Asked, IsTaskOf, Task, task_by, task_level}
 use Rattle.rq_planner.specs.Asked.Asked.{Do}
 use Rattle.rq_planner.specs.Asked.Task.{Chain, Tag}
-use Rattle.rq_planner.specs.Lawful.{IsByOwnLatch, IsExactlyLatched, IsLawfulFor, IsLawfulPlan, MayRefuse, most_writes, most_writes_back}
+use Rattle.rq_planner.specs.Lawful.{IsByOwnLatch, IsExactlyLatched, IsLawfulFor, IsLawfulPlan, most_writes, most_writes_back}
 use Rattle.rq_engine.specs.Closes.{IsClosePlan, close_latched}
 use Rattle.rq_engine.specs.Marks.{IsMarkPlan, mark_latched}
 use Rattle.rq_engine.specs.Earlier.{IsEarlier, on}
-use Rattle.rq_engine.specs.Plans.{AreHeldUp, ComesOf, HasStarted, IsDeedPlan, IsStartOf, IsTakeOf, IsWithin, Planned, is_latch, is_latched, known_part, planned_of, records_of, under_plan, IsByLatches, IsLatchedBy, IsOwnPlan}
+use Rattle.rq_engine.specs.Plans.{AreHeldUp, ComesOf, HasStarted, IsDeedPlan, IsStartOf, IsTakeOf, IsWithin, Planned, RefusesStart, is_latch, is_latched, known_part, planned_of, records_of, under_plan, IsByLatches, IsLatchedBy, IsOwnPlan}
 use Rattle.rq_engine.specs.Sends.{take_latched}
+use Rattle.rq_engine.specs.Answers.{IsCausedIn, Refuses}
 use Rattle.rq_engine.specs.Applied.{OnLatched}
+use Rattle.rq_engine.specs.Frames.{NotBegun}
+use Rattle.rq_engine.specs.KeptUp.{MayRefuseStart, failed_by}
+use Rattle.rq_engine.proofs.Standing.{failed_steps, refused_steps}
+
+-- what starts an operation may read pages
+starts_read : (c : Call) → starts_one c ≡ true → reads_pages c ≡ true
+starts_read Show e = refl
+starts_read c e = e
 
 -- it is of the store
 pub within : (z : Sizes) (task : Task) → IsWithin z task → IsTaskOf z task
@@ -104,34 +119,112 @@ module _ (d : Task) (p : Plan) (level : ℕ) (of_level : level ≡ task_level d)
 
 -- ---- what a start answers
 
--- a start that a sound store may do is refused for memory, or for latches
-pub refused_for : (P : Refusal → Type 0) (IsHeld : Type 0) (r : Refusal) → RefusesPlan IsHeld r → (TellsDamage r → ⊥) → P why.NoMemory → (IsHeld → P why.Latched) → P r
-refused_for P IsHeld why.NoMemory causes sound memory held = memory
-refused_for P IsHeld why.Latched causes sound memory held = held causes
-refused_for P IsHeld (why.Damaged x) causes sound memory held = absurd (sound tt)
-refused_for P IsHeld _ causes sound memory held = absurd causes
+pub never_failed : (r : Refusal) → MayRefuseStart r → r ≢ why.Failed
+never_failed r causes e = subst MayRefuseStart e causes
 
-pub never_failed : (r : Refusal) → MayRefuse r → r ≢ why.Failed
-never_failed r causes e = subst MayRefuse e causes
+-- what did not begin, over a device that is honest
+pub honest_begun : (H : Type 0) → H → (r : Refusal) → NotBegun H r → NotBegun (Unit {0}) r
+honest_begun H h why.NoMemory n = tt
+honest_begun H h why.PoolFull n = tt
+honest_begun H h why.DiskRead n = tt
+honest_begun H h why.DiskWrite n = tt
+honest_begun H h (why.Damaged d) n = absurd (n h)
+honest_begun H h _ n = absurd n
 
-pub plain_memory : {X : Type 0} (answer : Result X Refusal) → IfErr answer (λ r. r ≡ why.NoMemory) → IfErr answer (λ r. r ≢ why.Failed)
-plain_memory (Ok x) h = tt
-plain_memory (Err r) h = λ e. (let no : why.NoMemory ≡ why.Failed = sym h ∙ e in cc)
+-- it was refused for no latch, and for no damage
+not_begun_refuses : (IsHeld : Type 0) (r : Refusal) → NotBegun (Unit {0}) r → RefusesStart IsHeld r
+not_begun_refuses IsHeld why.NoMemory n = tt
+not_begun_refuses IsHeld why.PoolFull n = tt
+not_begun_refuses IsHeld why.DiskRead n = tt
+not_begun_refuses IsHeld why.DiskWrite n = tt
+not_begun_refuses IsHeld (why.Damaged d) n = tt
+not_begun_refuses IsHeld _ n = absurd n
 
--- what was planned to take something back begins, or memory is wanting
-pub begins_planned : {X A : Type 0} (p : Plan) (HasBegun : Plan → Type 0) (answer : Result X Refusal) → (A → HasBegun p) → OnOk answer A → IfErr answer (λ r. r ≡ why.NoMemory) → ComesOf (Ok p) HasBegun answer
-begins_planned p HasBegun (Ok x) begun started memory = begun started
-begins_planned p HasBegun (Err r) begun started memory = memory
+not_begun_sound : (r : Refusal) → NotBegun (Unit {0}) r → TellsDamage r → ⊥
+not_begun_sound (why.Damaged d) n damage = n tt
+not_begun_sound _ n damage = damage
+
+no_plan_refuses : (IsHeld : Type 0) (r : Refusal) → RefusesPlan IsHeld r → RefusesStart IsHeld r
+no_plan_refuses IsHeld why.PoolFull causes = tt
+no_plan_refuses IsHeld why.DiskRead causes = tt
+no_plan_refuses IsHeld why.DiskWrite causes = tt
+no_plan_refuses IsHeld _ causes = causes
+
+-- what was planned begins, or it does not
+pub begins_planned : {X : Type 0} {A : Type 0} (H : Type 0) → H → (p : Plan) (HasBegun : Plan → Type 0) (answer : Result X Refusal) → (A → HasBegun p) → OnOk answer A → IfErr answer (NotBegun H) → ComesOf (Ok p) HasBegun answer
+begins_planned H h p HasBegun (Ok x) begun started causes = begun started
+begins_planned H h p HasBegun (Err r) begun started causes = honest_begun H h r causes
+
+pub plain_begun : {X : Type 0} (H : Type 0) (answer : Result X Refusal) → IfErr answer (NotBegun H) → IfErr answer (λ r. r ≢ why.Failed)
+plain_begun H (Ok x) n = tt
+plain_begun H (Err r) n = λ e. subst (NotBegun H) e n
+
+-- an answer that is no failed read
+pub read_on : {X : Type 0} (x : X) → ◌≡◌ {A = Result X Refusal} (Ok x) (Err why.DiskRead) → ⊥
+read_on x e = cc
+
+err_is : {X : Type 0} (r : Refusal) → ◌≡◌ {A = Result X Refusal} (Err r) (Err why.DiskRead) → r ≡ why.DiskRead
+err_is r e = cc
+
+pub no_read : {X : Type 0} (r : Refusal) → (r ≡ why.DiskRead → ⊥) → ◌≡◌ {A = Result X Refusal} (Err r) (Err why.DiskRead) → ⊥
+no_read r none e = none (err_is r e)
+
+pub no_read_as : {X Y : Type 0} (r : Refusal) → (◌≡◌ {A = Result X Refusal} (Err r) (Err why.DiskRead) → ⊥) → ◌≡◌ {A = Result Y Refusal} (Err r) (Err why.DiskRead) → ⊥
+no_read_as r none e = none (ap Err (err_is r e))
+
+-- a read failed, or did not
+pub read_or_not : (r : Refusal) → (r ≡ why.DiskRead) ⊎ (r ≡ why.DiskRead → ⊥)
+read_or_not why.DiskRead = inl refl
+read_or_not _ = inr (λ e. cc)
 
 module _ {X : Type 0} (s : State) (asked : Asked) (HasBegun : Type 0) where
-  -- what was planned begins, or memory is wanting
-  pub start_answered : {A : Type 0} (answer : Result X Refusal) → (IsHeldUp (known_part s) asked → ⊥) → (A → HasBegun) → OnOk answer A → IfErr answer (λ r. r ≡ why.NoMemory) → IsStartOf s asked HasBegun answer
-  start_answered (Ok x) free begun started memory = record { begun = begun started; free = free; causes = tt; sound = λ e long k may. tt }
-  start_answered (Err r) free begun started memory = subst (λ (y : Refusal). IsStartOf {X = X} s asked HasBegun (Err y)) (sym memory) (record { begun = tt; free = tt; causes = tt; sound = λ e long k may damage. damage })
+  -- what was planned begins, or it does not
+  pub start_answered : {A : Type 0} (H : Type 0) → H → (answer : Result X Refusal) → (IsHeldUp (known_part s) asked → ⊥) → (A → HasBegun) → OnOk answer A → IfErr answer (NotBegun H) → IsStartOf s asked HasBegun answer
+  start_answered H h (Ok x) free begun started causes = record { begun = begun started; free = free; causes = tt; sound = λ e long k may. tt }
+  start_answered H h (Err r) free begun started causes =
+      let honest = honest_begun H h r causes in
+      record { begun = tt; free = tt; causes = not_begun_refuses (IsHeldUp (known_part s) asked) r honest; sound = λ e long k may. not_begun_sound r honest }
 
   -- or nothing was planned
   pub start_refused : (r : Refusal) → RefusesPlan (IsHeldUp (known_part s) asked) r → ((e : List Record) → IsEarlier e s → IsSound (on e s) → MayBeAsked (on e s) asked → TellsDamage r → ⊥) → IsStartOf {X = X} s asked HasBegun (Err r)
-  start_refused r causes sound = record { begun = tt; free = tt; causes = causes; sound = sound }
+  start_refused r causes sound = record { begun = tt; free = tt; causes = no_plan_refuses (IsHeldUp (known_part s) asked) r causes; sound = sound }
+
+  -- as the device gave what the slots hold, or failed
+  pub plan_refused : (r : Refusal) → ((r ≡ why.DiskRead → ⊥) → IsPlanned (known_part s) asked (Err r)) → IsStartOf {X = X} s asked HasBegun (Err r)
+  plan_refused r is = elim (read_or_not r) [
+    | inl read ↦ subst (λ (e : Refusal). IsStartOf {X = X} s asked HasBegun (Err e)) (sym read) (record { begun = tt; free = tt; causes = tt; sound = λ e long k may damage. damage })
+    | inr given ↦ (let p = is given in start_refused r p.causes (λ e long k may. p.sound (on e s) refl k may))
+  ]
+
+-- ---- what the calls answer
+
+-- a start that a sound store may do is refused as latched only where latches hold it up
+pub latched_for : (IsHeld P : Type 0) (r : Refusal) → RefusesStart IsHeld r → (IsHeld → P) → OnLatched P r
+latched_for IsHeld P why.Latched causes held = held causes
+latched_for IsHeld P _ causes held = tt
+
+-- What a start answers that is refused behind its tests, and what that makes of a sound store.
+module _ (s new : State) (c : Call) (IsHeld : Type 0) (starts : starts_one c ≡ true) (running : s.failed ≡ false) (some : IsSound s → starts_in (size_of s.sizes) (ledger_of s) c ≡ true) (passes : IsSound s → Passes (size_of s.sizes) (ledger_of s) c) where
+  abbrev IsSo : Refusal → State → Type 0
+  IsSo r n = IsModelStep s c (Gave_refusal r) n × IsCausedIn s c r
+
+  runs_on : runs (phase_of s.failed) ≡ true
+  runs_on = ap (λ b. runs (phase_of b)) running
+
+  reads : reads_pages c ≡ true
+  reads = starts_read c starts
+
+  writes : may_write c ≡ true
+  writes = or_right (writes_out c) (starts_one c) starts
+
+  pub refused_for : (r : Refusal) → RefusesStart IsHeld r → (TellsDamage r → ⊥) → new ≡ record s { failed = failed_by s.failed r } → Refuses s c why.NoMemory → (IsHeld → Refuses s c why.Latched) → IsSound s → IsSo r new
+  refused_for why.NoMemory causes sound is memory held k = subst (IsSo why.NoMemory) (sym is) (memory k)
+  refused_for why.Latched causes sound is memory held k = subst (IsSo why.Latched) (sym is) (held causes k)
+  refused_for why.PoolFull causes sound is memory held k = subst (IsSo why.PoolFull) (sym is) (refused_steps s k c why.PoolFull (passes k, some k) refl, starts)
+  refused_for why.DiskRead causes sound is memory held k = subst (IsSo why.DiskRead) (sym is) (refused_steps s k c why.DiskRead runs_on refl, reads)
+  refused_for why.DiskWrite causes sound is memory held k = subst (IsSo why.DiskWrite) (sym is) (failed_steps s k running c, writes)
+  refused_for (why.Damaged x) causes sound is memory held k = absurd (sound tt)
+  refused_for _ causes sound is memory held k = absurd causes
 
 pub latched_more : (A B : Type 0) → (A → B) → (r : Refusal) → OnLatched A r → OnLatched B r
 latched_more A B more why.Latched h = more h
@@ -142,19 +235,25 @@ latched_more A B more _ h = tt
 pub take_free : (s : State) (g : ℕ) → (IsHeldUp (known_part s) (Do (Chain (Receive g))) → ⊥) → take_latched s g ≡ false
 take_free s g h = false_from_ne_true (take_latched s g) h
 
-other_held : (A B : Type 0) (r : Refusal) → is_latch r ≡ false → RefusesPlan A r → RefusesPlan B r
+other_held : (A B : Type 0) (r : Refusal) → is_latch r ≡ false → RefusesStart A r → RefusesStart B r
 other_held A B why.NoMemory l causes = tt
+other_held A B why.PoolFull l causes = tt
+other_held A B why.DiskRead l causes = tt
+other_held A B why.DiskWrite l causes = tt
 other_held A B (why.Damaged x) l causes = tt
 other_held A B why.Latched l causes = absurd (true≢false l)
 other_held A B _ l causes = absurd causes
 
-held_more : (A B : Type 0) → (A → B) → (r : Refusal) → RefusesPlan A r → RefusesPlan B r
+held_more : (A B : Type 0) → (A → B) → (r : Refusal) → RefusesStart A r → RefusesStart B r
 held_more A B more why.NoMemory causes = tt
+held_more A B more why.PoolFull causes = tt
+held_more A B more why.DiskRead causes = tt
+held_more A B more why.DiskWrite causes = tt
 held_more A B more (why.Damaged x) causes = tt
 held_more A B more why.Latched causes = more causes
 held_more A B more _ causes = absurd causes
 
-held_by : (A : Type 0) (r : Refusal) → is_latch r ≡ true → RefusesPlan A r → A
+held_by : (A : Type 0) (r : Refusal) → is_latch r ≡ true → RefusesStart A r → A
 held_by A why.Latched l causes = causes
 held_by A _ l causes = absurd (false≢true l)
 
@@ -162,13 +261,13 @@ module _ {X : Type 0} (s : State) (t : Txn) (n : ℕ) (answer : Result X Refusal
   -- what holds up a start from one sender, or from some
   pub start_held : (g : ℕ) (HasBegun : Type 0) → is_latched answer ≡ true → IsStartOf s (Do (Chain (Receive g))) HasBegun answer → take_latched s g ≡ true
   start_held g HasBegun l p = at answer l p.causes where
-    at : (a : Result X Refusal) → is_latched a ≡ true → IfErr a (RefusesPlan (take_latched s g ≡ true)) → take_latched s g ≡ true
+    at : (a : Result X Refusal) → is_latched a ≡ true → IfErr a (RefusesStart (take_latched s g ≡ true)) → take_latched s g ≡ true
     at (Ok x) l c = absurd (false≢true l)
     at (Err r) l c = held_by (take_latched s g ≡ true) r l c
 
   pub take_held : (P : ℕ → Type 0) → is_latched answer ≡ true → IsTakeOf s t n P answer new → AreHeldUp s t P
   take_held P l p = at answer l p.causes where
-    at : (a : Result X Refusal) → is_latched a ≡ true → IfErr a (RefusesPlan (AreHeldUp s t P)) → AreHeldUp s t P
+    at : (a : Result X Refusal) → is_latched a ≡ true → IfErr a (RefusesStart (AreHeldUp s t P)) → AreHeldUp s t P
     at (Ok x) l c = absurd (false≢true l)
     at (Err r) l c = held_by (AreHeldUp s t P) r l c
 
@@ -326,14 +425,18 @@ module _ (s : State) where
   by_latches (Chain (Close g)) answer h = latched_by (close_latched s g) answer h
   by_latches (Tag t) answer h = latched_by (mark_latched s t.client) answer h
 
-  -- what begins of a plan is refused for want of memory alone
-  pub latched_then : {X : Type 0} (d : Task) (p : Plan) (answer : Result X Refusal) → IfErr answer (λ r. r ≡ why.NoMemory) → IsByLatches s d (Ok p) → IsByLatches s d answer
-  latched_then (Chain (Send g tag body)) p answer memory h = tt
-  latched_then (Chain (Receive g)) p answer memory h = tt
-  latched_then (Chain (Close g)) p (Ok x) memory h = h
-  latched_then (Chain (Close g)) p (Err r) memory h = subst (OnLatched (close_latched s g ≡ true)) (sym memory) tt
-  latched_then (Tag t) p (Ok x) memory h = h
-  latched_then (Tag t) p (Err r) memory h = subst (OnLatched (mark_latched s t.client ≡ true)) (sym memory) tt
+  -- what does not begin of a plan is not refused for latches
+  not_begun_latched : (H : Type 0) (r : Refusal) (P : Type 0) → NotBegun H r → OnLatched P r
+  not_begun_latched H why.Latched P n = absurd n
+  not_begun_latched H _ P n = tt
+
+  pub latched_then : {X : Type 0} (H : Type 0) (d : Task) (p : Plan) (answer : Result X Refusal) → IfErr answer (NotBegun H) → IsByLatches s d (Ok p) → IsByLatches s d answer
+  latched_then H (Chain (Send g tag body)) p answer causes h = tt
+  latched_then H (Chain (Receive g)) p answer causes h = tt
+  latched_then H (Chain (Close g)) p (Ok x) causes h = h
+  latched_then H (Chain (Close g)) p (Err r) causes h = not_begun_latched H r (close_latched s g ≡ true) causes
+  latched_then H (Tag t) p (Ok x) causes h = h
+  latched_then H (Tag t) p (Err r) causes h = not_begun_latched H r (mark_latched s t.client ≡ true) causes
 
   pub latched_refused : (X : Type 0) (d : Task) (r : Refusal) → IsByLatches {X = Plan} s d (Err r) → IsByLatches {X = X} s d (Err r)
   latched_refused X (Chain (Send g tag body)) r h = tt

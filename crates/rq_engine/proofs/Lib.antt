@@ -1,6 +1,7 @@
 pub mod Told
 pub mod Opened
 pub mod KeptUp
+pub mod Locking
 pub mod Tested
 pub mod Earlier
 pub mod UnknownStay
@@ -14,6 +15,7 @@ pub mod Latches
 pub mod Free
 pub mod Leveled
 pub mod Calls
+pub mod Frames
 pub mod SendCalls
 pub mod TakeCalls
 pub mod CloseCalls

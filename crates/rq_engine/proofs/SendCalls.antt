@@ -110,7 +110,7 @@ start_kept s f o res room t u k h left fits room_is =
     let r = found_of (λ r. (r.under ≡ None) × (u.number ≡ r.number + 1)) (found_row t s.rows) h in
     let number = r.2.1 in
     let made = fits.made in
-    let under : IsUnderConsistent s.sizes u = record { number = omega (arith, number); made = omega (arith, made); slots = fits.slots; sender = fits.sender; fits = fits.fits } in
+    let under : IsUnderConsistent s.sizes u = record { number = omega (arith, number); made = omega (arith, made); few = fits.few; slots = fits.slots; sender = fits.sender; fits = fits.fits } in
     let a = kept_started s f o res k t r.0 r.1 u s.ends s.cells_in_use r.2.0 under number made (omega (arith, left)) in
     let same : res + (546 * length u.writes + end_bytes u.aim) ≡ res + room = omega (arith, room_is) in
     subst (λ (m : ℕ). IsConsistent (record s { rows = change_row t (row_started u) s.rows }) f (o + (length u.writes + 1)) m) same a

@@ -73,10 +73,10 @@ module _ (s : State) (t : Txn) (h : NoneHolds (ready_tests (ledger_of s) t false
         (h.0, (h.1.0, (h.1.1.0, (h.1.1.1.0, (ap not (lt-ltb e (sender_count s.sizes) m), (ap not (free_to_take s k t e ∙ free), (ap (λ b. b && log_full (ledger_of s) 4) g, tt)))))))
 
     module _ (m : e < sender_count s.sizes) (free : is_free_for t e s.ends.receiving ≡ true) (wait : 1 ≤ waits s.waiting e) where
-      some : (k : IsSound s) → any_gives (below (sender_count s.sizes)) (ledger_of s) t (found t (ledger_of s).open_ones) ≡ true
+      pub some : (k : IsSound s) → any_gives (below (sender_count s.sizes)) (ledger_of s) t (found t (ledger_of s).open_ones) ≡ true
       some k = some_gives s k t own_row.0 own_row.1 e (m, free, wait)
 
-      one : (k : IsSound s) → gives (ledger_of s) t (found t (ledger_of s).open_ones) e ≡ true
+      pub one : (k : IsSound s) → gives (ledger_of s) t (found t (ledger_of s).open_ones) e ≡ true
       one k = gives_one s k t own_row.0 own_row.1 e (m, free, wait)
 
       known : not (nat_lt e (sender_count s.sizes)) ≡ false

@@ -15,12 +15,14 @@ use Rattle.rq_txn.specs.declared.Aim.{Aim}
 use Rattle.rq_txn.specs.declared.Aim.TheVariants.{Doing, Undoing}
 use Rattle.rq_txn.specs.declared.Finished.{Finished}
 use Rattle.rq_txn.specs.Rows.{Row, Under, AreDistinct, deed_of}
+use Rattle.rq_pool.specs.Held.{Held}
 use Rattle.rq_groups.specs.Sent.{SentBy, sent_count}
 use Rattle.rq_groups.specs.Waiting.{waits}
 use Rattle.rq_store.specs.Sends.{place_count}
 use Rattle.rq_store.specs.State.{State, owed_by}
 use Rattle.rq_store.specs.Steps.{op_end}
 use Rattle.rq_planner.specs.Answered.{KnowsCells}
+use Rattle.rq_engine.specs.Frames.{AreFixedAsLatched}
 
 -- the bytes of the record that ends an operation
 abbrev pub end_bytes : Aim → ℕ
@@ -44,6 +46,7 @@ EndFits (Undoing lsn d) = 1 ≤ lsn
 pub record IsUnderConsistent (z : Sizes) (u : Under) : Type 0 where
   pub number : 1 ≤ u.number
   pub made : u.made ≤ length u.writes
+  pub few : length u.writes ≤ 3
   pub slots : AreSlotWrites z u.writes
   pub sender : IsDeedOf z (deed_of u.aim)
   pub fits : EndFits u.aim
@@ -110,9 +113,11 @@ pub record IsConsistent (s : State) (failed : Bool) (owed reserved : ℕ) : Type
   -- the end of each finished operation stands in the log, at its LSN
   pub ended : (r : Row) (f : Finished) → In r s.rows → In f r.finished → IsLogged s.records f.lsn (end_of r.txn f)
 
--- And when its log was last forced, a crash would have left that log alone; and its levels know the cells.
-pub record IsEngine {L : Type 0} (g : log_device.Ghosts L) (s : State) (log : Logged L) (owed : ℕ) (known : List LevelState)
-    : Type 0 where
+-- And when its log was last forced, a crash would have left that log alone. Its levels know the cells, and operations under way have
+-- their pages fixed in frames.
+pub record IsEngine {L : Type 0} (g : log_device.Ghosts L) (s : State) (frames : List Held) (log : Logged L) (owed : ℕ)
+    (known : List LevelState) : Type 0 where
   pub kept : IsConsistent s log.failed owed log.reserved
   pub durable : IsSettled g log
   pub cells : KnowsCells s.sizes s.images known
+  pub frames_are : AreFixedAsLatched s.rows frames

@@ -1,5 +1,5 @@
 -- What a call that may read pages, and write others out, makes of an open store.
-use Rattle.std.specs.Prelude.{◌≡◌, ℕ, Bool, true, false, List, Some, Result, Ok, Err, IfErr, IfOk, OnErr}
+use Rattle.std.specs.Prelude.{◌≡◌, ℕ, Bool, true, false, List, Some, Result, Ok, Err, IfErr, IfOk}
 use Rattle.rq_model.specs.Causes.{reads_pages, starts_one}
 use Rattle.rq_model.specs.History.{Call}
 use Rattle.rq_model.specs.declared.refusal.Refusal.{Refusal}
@@ -79,15 +79,39 @@ pub record HasReadPages {P L : Type 0} (g : page_device.Ghosts P) (old new : Ope
 abbrev pub HasReadSoFar : {P L : Type 0} → page_device.Ghosts P → OpenStore P L → OpenStore P L → Type 0
 HasReadSoFar g old new = HasReadPages g old new × (g.faults new.pages ≡ g.faults old.pages)
 
--- What a start that passed its tests answers and leaves, whatever the device gave of pages that it read. HasBegun is so of the lists,
--- but for images of those pages, where something has begun.
+-- The answer was given by a device that is honest, and did not fail in a read.
+abbrev pub IsGivenBy : {P L X : Type 0} → page_device.Ghosts P → Result X Refusal → OpenStore P L → Type 0
+IsGivenBy g answer new = g.honest new.pages × (answer ≡ Err why.DiskRead → ⊥)
+
+-- why a start may be refused behind its tests: as there may be no plan, for frames, or as a page was not written out
+abbrev pub MayRefuseStart : Refusal → Type 0
+MayRefuseStart why.PoolFull = Unit {0}
+MayRefuseStart why.DiskWrite = Unit {0}
+MayRefuseStart r = MayRefuse r
+
+-- whether the store has failed that was refused so: a device's failure in a write stops it
+abbrev pub failed_by : Bool → Refusal → Bool
+failed_by failed why.DiskWrite = true
+failed_by failed _ = failed
+
+-- the lists that such a refusal leaves, but for images of pages that were read
+abbrev pub IsLeftBy : State → Refusal → State → Type 0
+IsLeftBy old r new = AreButRead (record old { failed = failed_by old.failed r }) new
+
+-- what it leaves of the store; latches hold a start up before any page is fixed, so pages were read then, and that is all
+abbrev pub StartLeaves : {P L : Type 0} → page_device.Ghosts P → OpenStore P L → Refusal → OpenStore P L → Type 0
+StartLeaves g old why.Latched new = HasReadPages g old new
+StartLeaves g old r new = IsLeftBy old.state r new.state
+
+-- What a start that passed its tests answers and leaves, whatever the device gave of pages that it read. HasBegun is so of the
+-- lists, but for images of those pages, where something has begun.
 pub record HasTried {P L X : Type 0} (g : page_device.Ghosts P) (old : OpenStore P L) (HasBegun : State → Type 0)
     (answer : Result X Refusal) (new : OpenStore P L) : Type 0 where
   pub devices : KeepsDevices g old new
   pub counts : AnswerCounts g answer old new
   pub begun : IfOk answer (λ _. HasBegun (with_images_of old.state new.state))
-  pub read : OnErr answer (HasReadPages g old new)
-  pub causes : IfErr answer MayRefuse
+  pub left : IfErr answer (λ r. StartLeaves g old r new)
+  pub causes : IfErr answer MayRefuseStart
 
 -- And its lists are as they were, and no device failed. Where the call starts nothing, pages were only read and count as changed as
 -- before, and where it reads none, all is as it was.

@@ -5,6 +5,7 @@ pub mod Earlier
 pub mod Says
 pub mod Moves
 pub mod Receives
+pub mod Frames
 pub mod Invariant
 pub mod Answers
 pub mod Sends

@@ -37,6 +37,7 @@ use Rattle.rq_engine.specs.Answers.{HasNothingUnderWay}
 use Rattle.rq_engine.specs.Applied.{OnLatched}
 use Rattle.rq_engine.specs.Closes.{close_latched}
 use Rattle.rq_engine.specs.Earlier.{IsEarlier, IsSoundOver, on}
+use Rattle.rq_engine.specs.Frames.{NotBegun}
 use Rattle.rq_engine.specs.Marks.{mark_latched}
 use Rattle.rq_engine.specs.Sends.{take_latched}
 
@@ -174,10 +175,10 @@ pub record IsOwnPlan (s : State) (task : Task) (answer : Result Plan Refusal) : 
   pub few : IfOk answer (λ p. length p.writes.items + 1 ≤ records_of task)
   pub latched : IsByLatches s task answer
 
--- what is planned begins, unless memory is wanting; what is not planned is refused as it was
+-- what is planned begins, unless memory or frames are wanting or a device fails; what is not planned is refused as it was
 abbrev pub ComesOf : {X : Type 0} → Result Plan Refusal → (HasBegun : Plan → Type 0) → Result X Refusal → Type 0
 ComesOf (Ok p) HasBegun (Ok x) = HasBegun p
-ComesOf (Ok p) HasBegun (Err r) = r ≡ why.NoMemory
+ComesOf (Ok p) HasBegun (Err r) = NotBegun (Unit {0}) r
 ComesOf (Err r) HasBegun answer = answer ≡ Err r
 
 -- the levels are asked, and what they plan begins
@@ -187,12 +188,19 @@ pub record BeginsAsPlanned {X : Type 0} (s : State) (MayAnswer : LevelAnswer) (H
   pub asked : LevelsAnswer s MayAnswer plan
   pub begun : ComesOf plan HasBegun answer
 
--- What is answered to a start of what is asked. It is refused as latched exactly where latches hold it up, and for want of memory
--- alone otherwise where a sound store may do it.
+-- why nothing begins: frames are wanting or a device failed, or there is no plan
+abbrev pub RefusesStart : (IsHeld : Type 0) → Refusal → Type 0
+RefusesStart IsHeld why.PoolFull = Unit {0}
+RefusesStart IsHeld why.DiskRead = Unit {0}
+RefusesStart IsHeld why.DiskWrite = Unit {0}
+RefusesStart IsHeld r = RefusesPlan IsHeld r
+
+-- What is answered to a start of what is asked. It is refused as latched exactly where latches hold it up. Where a sound store may
+-- do it, it is refused otherwise for want of memory or frames alone, or as a device failed.
 pub record IsStartOf {X : Type 0} (s : State) (asked : Asked) (HasBegun : Type 0) (answer : Result X Refusal) : Type 0 where
   pub begun : IfOk answer (λ _. HasBegun)
   pub free : IfOk answer (λ _. IsHeldUp (known_part s) asked → ⊥)
-  pub causes : IfErr answer (RefusesPlan (IsHeldUp (known_part s) asked))
+  pub causes : IfErr answer (RefusesStart (IsHeldUp (known_part s) asked))
   pub sound : (e : List Record) → IsEarlier e s → IsSound (on e s) → MayBeAsked (on e s) asked
       → IfErr answer (λ r. TellsDamage r → ⊥)
 
@@ -224,7 +232,7 @@ AreHeldUp s t P = (g : ℕ) → P g → WaitsFor s t g → take_latched s g ≡ 
 pub record IsTakeOf {X : Type 0} (s : State) (t : Txn) (n : ℕ) (P : ℕ → Type 0) (answer : Result X Refusal) (new : State)
     : Type 0 where
   pub begun : IfOk answer (λ _. HasTaken s t n new)
-  pub causes : IfErr answer (RefusesPlan (AreHeldUp s t P))
+  pub causes : IfErr answer (RefusesStart (AreHeldUp s t P))
   pub sound : IsSoundOver s → IfErr answer (λ r. TellsDamage r → ⊥)
 
 abbrev pub is_latch : Refusal → Bool

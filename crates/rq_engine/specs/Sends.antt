@@ -27,9 +27,10 @@ SendIsLatched s g = (any_latched s.rows (at_tail (slots_now s) g) ≡ true) ⊎ 
 abbrev pub take_latched : State → ℕ → Bool
 take_latched s g = any_latched s.rows (behind_head (slots_now s) g)
 
--- the operation writes slots of the store, and nothing of it is made
+-- the operation writes slots of the store, three at most, and nothing of it is made
 pub record FitsUnder (z : Sizes) (u : Under) : Type 0 where
   pub made : u.made ≡ 0
+  pub few : length u.writes ≤ 3
   pub slots : AreSlotWrites z u.writes
   pub sender : IsDeedOf z (deed_of u.aim)
   pub fits : EndFits u.aim

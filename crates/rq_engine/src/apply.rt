@@ -57,7 +57,6 @@ impl<P: PageDevice, L: LogDevice, B: Level> Engine<P, L, B> {
         if self.transactions.any_under_way() {
             return Err(Refusal::Unfinished);
         }
-        self.pages.shows_framed();
         match content(self.alloc, &mut self.pages, &self.transactions) {
             Ok(groups) => Ok(groups),
             Err(refusal) => Err(refusal),

@@ -30,7 +30,7 @@ impl<P: PageDevice, L: LogDevice, B: Level> Engine<P, L, B> {
     ///
     /// # Errors
     /// `Failed`, `UnknownTransaction`, `NotOpen`, `Unfinished`, `UnknownSender`, `SenderBusy`, `Closed`, `LogFull`,
-    /// `Latched`, `NoMemory`; of a store that is not sound also `Damaged`.
+    /// `Latched`, `PoolFull`, `NoMemory`, `DiskRead`, `DiskWrite`; of a store that is not sound also `Damaged`.
     pub fn start_close(&mut self, txn: Txn, sender: u32) -> Result<Sub, Refusal>
         ensures answered { AnswersLegally P.PageDevice L.LogDevice self.old
             (Start_close txn sender) (λ sub. Gave_sub sub.txn sub.number) result self.new }

@@ -17,6 +17,7 @@ ghost use Rattle.rq_sound.specs.Sound.{IsSound};
 ghost use Rattle.rq_engine.specs.Earlier.{on, over, IsEarlier};
 ghost use Rattle.rq_model.specs.declared.record.Record.{Record};
 ghost use Rattle.rq_planner.specs.Answered.{KnowsCells};
+ghost use Rattle.rq_pool.specs.Held.{IsFixed};
 ghost use Rattle.rq_engine.specs.Opened.{LeavesDevices, NotWritten};
 ghost use Rattle.rq_engine.specs.Checkpoint.{IsBeginningOrBase};
 ghost use Rattle.rq_engine.specs.Crash.{AreFit, KeepsFit, LeavesCut};
@@ -111,7 +112,7 @@ impl<P: PageDevice, L: LogDevice, B: Level> Model for Engine<P, L, B> {
       cells_in_use = e.cells_in_use;
       waiting = e.waiting;
       sent = e.sent;
-    }) e.log e.owed e.planner };
+    }) e.pages.frames e.log e.owed e.planner };
 }
 
 impl<P: PageDevice + Drop, L: LogDevice + Drop, B: Level> Engine<P, L, B> {
@@ -141,6 +142,7 @@ impl<P: PageDevice + Drop, L: LogDevice + Drop, B: Level> Engine<P, L, B> {
         requires tags { length sent.tags ≡ place_count pages.sizes }
         requires few_sent { (g : ℕ) → sent_count sent g ≤ length log.records }
         requires known { KnowsCells pages.sizes pages.images planner }
+        requires loose { (q : ℕ) → 1 ≤ q → IsFixed pages.frames q → ⊥ }
         ensures { result ≡ record {
           state = record {
             sizes = pages.sizes;

@@ -13,6 +13,7 @@ mod marks;
 mod migration;
 mod moves;
 mod operations;
+mod page_numbers;
 mod pages;
 mod receives;
 mod sends;

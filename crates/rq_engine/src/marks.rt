@@ -29,8 +29,8 @@ impl<P: PageDevice, L: LogDevice, B: Level> Engine<P, L, B> {
     /// other marks for the client.
     ///
     /// # Errors
-    /// `Failed`, `UnknownTransaction`, `NotOpen`, `Unfinished`, `UnknownClient`, `ClientBusy`, `LogFull`, `Latched`, `NoMemory`;
-    /// of a store that is not sound also `Damaged`.
+    /// `Failed`, `UnknownTransaction`, `NotOpen`, `Unfinished`, `UnknownClient`, `ClientBusy`, `LogFull`, `Latched`,
+    /// `PoolFull`, `NoMemory`, `DiskRead`, `DiskWrite`; of a store that is not sound also `Damaged`.
     pub fn start_mark(&mut self, txn: Txn, client: u32, tag: u64) -> Result<Sub, Refusal>
         ensures answered { AnswersLegally P.PageDevice L.LogDevice self.old
             (Start_mark txn client tag) (λ sub. Gave_sub sub.txn sub.number) result self.new }

@@ -12,12 +12,14 @@ ghost use Rattle.rq_engine.specs.Opened.{LeavesDevices};
 ghost use Rattle.rq_engine.specs.Moves.{with_taken, without_taken};
 ghost use Rattle.rq_engine.specs.Applied.{StepChanges};
 ghost use Rattle.rq_engine.specs.Answers.{AnswersLegally, IsUnderWay, NotFound, IsOther, OnUnder, Idle, CannotFinish};
+ghost use Rattle.rq_engine.specs.Frames.{pages_of};
 ghost use Rattle.rq_engine.specs.Lists.{FinishSays, StepSays};
 ghost use Rattle.rq_engine.specs.Says.{progress_of, outcome_of};
 
 use crate::engine::Engine;
 use crate::event::{Outcome, Progress};
 use crate::moves::{cells_given_back, leave_out_taken, put_in_taken};
+use crate::page_numbers::PageNumbers;
 use rq_disk::{LogDevice, PageDevice};
 use rq_level::Level;
 use rq_model::refusal::Refusal;
@@ -130,7 +132,7 @@ impl<P: PageDevice, L: LogDevice, B: Level> Engine<P, L, B> {
         Ok(Progress::Done(lsn))
     }
 
-    // Ends a deed, with its record.
+    // Ends a deed, with its record, and lets go of its pages.
     #[inline(always)]
     fn end(&mut self, sub: Sub, deed: &ToldDeed)
         requires running { self.old.state.failed ≡ false }
@@ -144,6 +146,7 @@ impl<P: PageDevice, L: LogDevice, B: Level> Engine<P, L, B> {
         } }
         ensures devices { LeavesDevices self.old self.new }
     {
+        let pages = pages_under_way(&self.transactions, sub);
         let lsn = self
             .log
             .append_op_end(sub.txn, sub.number, deed.level(), deed.bytes());
@@ -153,11 +156,12 @@ impl<P: PageDevice, L: LogDevice, B: Level> Engine<P, L, B> {
             deed: *deed,
         };
         self.transactions.note(sub.txn, finished);
+        self.pages.let_all(pages.as_slice());
         leave_out_taken(&mut self.waiting, deed);
         self.owed -= 1;
     }
 
-    // Ends an inverse, with its record.
+    // Ends an inverse, with its record, and lets go of its pages.
     fn end_undo(&mut self, sub: Sub, lsn: Lsn, deed: &ToldDeed)
         requires running { self.old.state.failed ≡ false }
         requires ready { IsUnderWay self.old.state sub
@@ -171,8 +175,10 @@ impl<P: PageDevice, L: LogDevice, B: Level> Engine<P, L, B> {
         ensures sender { takes_of deed.now ≡ 1 → deed_sender deed.now < length self.old.state.waiting }
         ensures devices { LeavesDevices self.old self.new }
     {
+        let pages = pages_under_way(&self.transactions, sub);
         self.log.append_comp_end(sub.txn, sub.number, lsn);
         self.transactions.undo(sub.txn);
+        self.pages.let_all(pages.as_slice());
         put_in_taken(&mut self.waiting, deed);
         self.cells_in_use = self.cells_in_use.saturating_sub(cells_given_back(deed));
         self.owed -= 1;
@@ -190,4 +196,13 @@ fn under_way(transactions: &Transactions, sub: Sub) -> Option<&Operation>
         Some(operation) if operation.number == sub.number => Some(operation),
         _ => None,
     }
+}
+
+// The pages that the operation has fixed, which is under way.
+#[inline(always)]
+fn pages_under_way(transactions: &Transactions, sub: Sub) -> PageNumbers
+    requires { OnFound (found_row sub.txn transactions.now) (λ r. OnUnder sub.number (λ r u. length u.writes ≤ 3) r r.under) }
+    ensures { OnFound (found_row sub.txn transactions.now) (λ r. OnUnder sub.number (λ r u. result ≡ pages_of u.writes) r r.under) }
+{
+    PageNumbers::of(&under_way(transactions, sub).unwrap().writes)
 }

@@ -30,8 +30,8 @@ impl<P: PageDevice, L: LogDevice, B: Level> Engine<P, L, B> {
     /// holds its receiving end; it holds a message where more is committed than was taken.
     ///
     /// # Errors
-    /// `Failed`, `UnknownTransaction`, `NotOpen`, `Unfinished`, `LogFull`, `Latched`, `NoMemory`; of a store that is
-    /// not sound also `Damaged`.
+    /// `Failed`, `UnknownTransaction`, `NotOpen`, `Unfinished`, `LogFull`, `Latched`, `PoolFull`, `NoMemory`, `DiskRead`,
+    /// `DiskWrite`; of a store that is not sound also `Damaged`. Another candidate is tried only behind `Latched`.
     pub fn start_receive(&mut self, txn: Txn) -> Result<Option<Sub>, Refusal>
         ensures answered { AnswersLegally P.PageDevice L.LogDevice self.old
             (Start_receive txn) started_of result self.new }
@@ -67,7 +67,7 @@ impl<P: PageDevice, L: LogDevice, B: Level> Engine<P, L, B> {
     ///
     /// # Errors
     /// `Failed`, `UnknownTransaction`, `NotOpen`, `Unfinished`, `UnknownSender`, `ReceiverBusy`, `LogFull`, `Latched`,
-    /// `NoMemory`; of a store that is not sound also `Damaged`.
+    /// `PoolFull`, `NoMemory`, `DiskRead`, `DiskWrite`; of a store that is not sound also `Damaged`.
     pub fn start_receive_from(&mut self, txn: Txn, sender: u32) -> Result<Option<Sub>, Refusal>
         ensures answered { AnswersLegally P.PageDevice L.LogDevice self.old
             (Start_receive_from txn sender) started_of result self.new }

@@ -30,7 +30,7 @@ impl<P: PageDevice, L: LogDevice, B: Level> Engine<P, L, B> {
     ///
     /// # Errors
     /// `Failed`, `UnknownTransaction`, `NotOpen`, `Unfinished`, `UnknownSender`, `TooLong`, `SenderBusy`, `Closed`,
-    /// `Full`, `LogFull`, `Latched`, `NoMemory`; of a store that is not sound also `Damaged`.
+    /// `Full`, `LogFull`, `Latched`, `PoolFull`, `NoMemory`, `DiskRead`, `DiskWrite`; of a store that is not sound also `Damaged`.
     pub fn start_send(
         &mut self,
         txn: Txn,

@@ -1,5 +1,5 @@
 //! Starts of what is to be done: a send, a receive, a close or a mark.
-ghost use Rattle.std.specs.Prelude.{◌≡◌, ◌≢◌, ◌≤◌, ◌<◌, IfErr, IfOk, OnOk, OnErr, Some, false, true};
+ghost use Rattle.std.specs.Prelude.{◌≡◌, ◌≢◌, ◌+◌, ◌*◌, ◌≤◌, ◌<◌, IfErr, IfOk, OnOk, OnErr, Some, false, true, length};
 ghost use Rattle.rq_model.specs.Vocabulary.{is_some};
 ghost use Rattle.rq_views.specs.InStore.{IsDeedOf};
 ghost use Rattle.rq_txn.specs.Rows.{change_row, row_started, under_of};
@@ -7,26 +7,30 @@ ghost use Rattle.rq_groups.specs.Sides.{is_free_end};
 ghost use Rattle.rq_planner.specs.Answered.{IsPlanned};
 ghost use Rattle.rq_planner.specs.Asked.{Do, IsTaskOf, Task, task_by};
 ghost use Rattle.rq_planner.specs.Lawful.{IsLawfulPlan, MayRefuse};
-ghost use Rattle.rq_engine.specs.Opened.{LeavesDevices};
+ghost use Rattle.rq_sound.specs.Plans.{AreUnlatched};
+ghost use Rattle.rq_engine.specs.Opened.{pooled};
+ghost use Rattle.rq_engine.specs.Frames.{IsForFrames, NotBegun, pages_of};
 ghost use Rattle.rq_engine.specs.Answers.{HasNothingUnderWay};
 ghost use Rattle.rq_engine.specs.Invariant.{end_bytes};
-ghost use Rattle.rq_engine.specs.KeptUp.{AnswerCounts, HasReadPages, HasTried};
+ghost use Rattle.rq_engine.specs.KeptUp.{AnswerCounts, AreButRead, HasReadPages, HasTried, IsGivenBy, IsLeftBy, KeepsDevices, failed_by};
 ghost use Rattle.rq_engine.specs.Plans.{BeginsAsPlanned, HasBegun, HasStarted, IsByLatches, IsOwnPlan, IsStartOf, IsToStart, LevelsAnswer, is_latched, known_part, planned_of, started_with, to_job};
 ghost use Rattle.rq_engine.specs.Sends.{FitsUnder, HasRoom};
 
 use crate::engine::Engine;
+use crate::page_numbers::PageNumbers;
 use rq_disk::{LogDevice, PageDevice};
 use rq_groups::End;
 use rq_level::{Level, Op, Plan};
+use rq_log::Log;
 use rq_model::record::DEED_LIMIT;
 use rq_model::refusal::Refusal;
 use rq_model::txn::Txn;
 use rq_record::{COMP_END_BYTES, OP_END_BYTES, PAGE_OP_BYTES};
-use rq_txn::{Aim, Operation, ToldDeed};
+use rq_txn::{Aim, Operation, ToldDeed, Transactions};
 
 impl<P: PageDevice, L: LogDevice, B: Level> Engine<P, L, B> {
-    // Has what is asked planned from the slots as they are. Takes its lock and all that its steps and its end need, and
-    // lets it begin. Where it is refused, pages were perhaps read.
+    // Has what is asked planned from the slots as they are. Takes its lock, its frames and all that its steps and its end need, and
+    // lets it begin. Where it is refused, pages were perhaps read, or written out.
     pub(crate) fn start_planned(
         &mut self,
         txn: Txn,
@@ -44,7 +48,7 @@ impl<P: PageDevice, L: LogDevice, B: Level> Engine<P, L, B> {
         // Of an honest one.
         ensures started { P.honest self.new.pages → (d : Task) → task_by op.now.level op.now.bytes ≡ Some d
             → IsStartOf self.old.state (Do d) (HasStarted self.old.state txn number end d self.new.state) result }
-        ensures answered { P.honest self.new.pages → BeginsAsPlanned self.old.state (to_job op.now)
+        ensures answered { IsGivenBy P.PageDevice result self.new → BeginsAsPlanned self.old.state (to_job op.now)
             (λ plan. self.new.state ≡ started_with self.old.state txn number end (planned_of op.now.level plan)) result }
     {
         match self.plan(op) {
@@ -53,7 +57,7 @@ impl<P: PageDevice, L: LogDevice, B: Level> Engine<P, L, B> {
         }
     }
 
-    // What its level plans for an operation that is to be done. Each page stands in a frame, so no read fails.
+    // What its level plans for an operation that is to be done.
     fn plan(&mut self, op: &Op) -> Result<Plan, Refusal>
         requires forward { op.now.undo ≡ false }
         requires asked { is_some (task_by op.now.level op.now.bytes) ≡ true }
@@ -62,19 +66,19 @@ impl<P: PageDevice, L: LogDevice, B: Level> Engine<P, L, B> {
         ensures counts { AnswerCounts P.PageDevice result self.old self.new }
         ensures causes { IfErr result MayRefuse }
         ensures lawful { IfOk result (IsLawfulPlan self.old.state.sizes op.now.level) }
+        ensures free { IfOk result (λ p. AreUnlatched self.old.state p.writes.items) }
         ensures own { (d : Task) → task_by op.now.level op.now.bytes ≡ Some d → IsOwnPlan self.old.state d result }
-        // Of an honest one.
-        ensures answered { P.honest self.new.pages → LevelsAnswer self.old.state (to_job op.now) result }
-        ensures planned { P.honest self.new.pages → (d : Task) → task_by op.now.level op.now.bytes ≡ Some d
+        // Of an honest one that did not fail.
+        ensures answered { IsGivenBy P.PageDevice result self.new → LevelsAnswer self.old.state (to_job op.now) result }
+        ensures planned { IsGivenBy P.PageDevice result self.new → (d : Task) → task_by op.now.level op.now.bytes ≡ Some d
             → IsTaskOf self.old.state.sizes d → IsPlanned (known_part self.old.state) (Do d) result }
     {
-        self.pages.shows_framed();
         let room = self.transactions.spare();
         self.planner
             .plan(room, &mut self.pages, &self.transactions, op)
     }
 
-    // Takes the lock and the room of an operation that the level of this number planned, and lets it begin. Where that
+    // Takes the lock, the frames and the room of an operation that the level of this number planned, and lets it begin. Where that
     // is refused, the lock is given back.
     fn start(
         &mut self,
@@ -87,12 +91,16 @@ impl<P: PageDevice, L: LogDevice, B: Level> Engine<P, L, B> {
         requires ready { HasNothingUnderWay self.old.state txn number }
         requires free { is_free_end txn end self.old.state.ends ≡ true }
         requires lawful { IsLawfulPlan self.old.state.sizes level plan }
+        requires unlatched { AreUnlatched self.old.state plan.writes.items }
         requires inside { IsDeedOf self.old.state.sizes (planned_of level plan).deed }
         requires log { HasRoom self.old.state plan.writes.items }
-        ensures started { OnOk result (self.new.state ≡ started_with self.old.state txn number end (planned_of level plan)) }
-        ensures devices { LeavesDevices self.old self.new }
-        ensures refusal { IfErr result (λ r. r ≡ Refusal.NoMemory) }
-        ensures refused { OnErr result (self.new ≡ self.old) }
+        ensures started { OnOk result (AreButRead
+            (started_with self.old.state txn number end (planned_of level plan)) self.new.state) }
+        ensures devices { KeepsDevices P.PageDevice self.old self.new }
+        ensures counts { AnswerCounts P.PageDevice result self.old self.new }
+        ensures left { IfErr result (λ r. IsLeftBy self.old.state r self.new.state) }
+        ensures causes { IfErr result (NotBegun (P.honest self.new.pages)) }
+        ensures frames { IsForFrames (pooled self.old) self.old.state.forced (pages_of plan.writes.items) result }
     {
         let Plan {
             writes,
@@ -106,7 +114,9 @@ impl<P: PageDevice, L: LogDevice, B: Level> Engine<P, L, B> {
             made: 0,
             aim: Aim::Doing(ToldDeed::new(level, deed, reply.gist().unwrap())),
         };
-        let newly = self.ends.take(txn, end)?;
+        let Ok(newly) = self.ends.take(txn, end) else {
+            return Err(Refusal::NoMemory);
+        };
         match self.launch(txn, operation) {
             Ok(()) => Ok(()),
             Err(refusal) => {
@@ -116,28 +126,79 @@ impl<P: PageDevice, L: LogDevice, B: Level> Engine<P, L, B> {
         }
     }
 
-    // Takes the room of an operation's records, and lets it begin.
-    #[inline(always)]
+    // Has the pages of an operation fixed in their frames, takes the room of its records, and lets it begin. A device that fails as
+    // a page makes way for one of them stops the store.
     pub(crate) fn launch(&mut self, txn: Txn, operation: Operation) -> Result<(), Refusal>
         requires ready { HasNothingUnderWay self.old.state txn operation.number }
         requires fits { FitsUnder self.old.state.sizes (under_of operation) }
+        requires unlatched { AreUnlatched self.old.state operation.writes.items }
         requires log { HasRoom self.old.state operation.writes.items }
-        ensures launched { OnOk result (self.new.state ≡ record self.old.state {
+        ensures launched { OnOk result (AreButRead (record self.old.state {
           rows = change_row txn (row_started (under_of operation)) self.old.state.rows;
-        }) }
-        ensures devices { LeavesDevices self.old self.new }
-        ensures refusal { IfErr result (λ r. r ≡ Refusal.NoMemory) }
-        ensures refused { OnErr result (self.new ≡ self.old) }
+        }) self.new.state) }
+        ensures devices { KeepsDevices P.PageDevice self.old self.new }
+        ensures counts { AnswerCounts P.PageDevice result self.old self.new }
+        ensures left { IfErr result (λ r. IsLeftBy self.old.state r self.new.state) }
+        ensures causes { IfErr result (NotBegun (P.honest self.new.pages)) }
+        ensures frames { IsForFrames (pooled self.old) self.old.state.forced (pages_of operation.writes.items) result }
     {
-        let count = operation.writes.len();
-        let room = count * PAGE_OP_BYTES + end_len(&operation.aim);
-        self.log.reserve(room)?;
-        let Ok(()) = self.transactions.start(txn, operation) else {
-            self.log.release(room);
-            return Err(Refusal::NoMemory);
-        };
-        self.owed += count as u64 + 1;
-        Ok(())
+        let pages = PageNumbers::of(&operation.writes);
+        match self.pages.fix_all(pages.as_slice(), self.log.forced()) {
+            Ok(()) => {}
+            Err(refusal) => {
+                self.failed = fails_by(self.failed, &refusal);
+                return Err(refusal);
+            }
+        }
+        match enlist(&mut self.log, &mut self.transactions, txn, operation) {
+            Ok(records) => {
+                self.owed += records;
+                Ok(())
+            }
+            Err(refusal) => {
+                self.pages.let_all(pages.as_slice());
+                Err(refusal)
+            }
+        }
+    }
+}
+
+// Takes the room of an operation's records, and lets it be under way. How many records that will be.
+fn enlist<L: LogDevice>(
+    log: &mut Log<L>,
+    transactions: &mut Transactions,
+    txn: Txn,
+    operation: Operation,
+) -> Result<u64, Refusal>
+    requires few { length operation.writes.items ≤ 3 }
+    ensures log { OnOk result (log.new ≡ record log.old {
+      reserved = log.old.reserved
+          + (546 * length operation.writes.items + end_bytes operation.aim);
+    }) }
+    ensures row { OnOk result (transactions.new ≡ change_row txn (row_started (under_of operation)) transactions.old) }
+    ensures records { IfOk result (λ n. n ≡ length operation.writes.items + 1) }
+    ensures refusal { IfErr result (λ r. r ≡ Refusal.NoMemory) }
+    ensures refused { OnErr result ((log.new ≡ log.old) × (transactions.new ≡ transactions.old)) }
+{
+    let count = operation.writes.len();
+    let room = count * PAGE_OP_BYTES + end_len(&operation.aim);
+    let Ok(()) = log.reserve(room) else {
+        return Err(Refusal::NoMemory);
+    };
+    let Ok(()) = transactions.start(txn, operation) else {
+        log.release(room);
+        return Err(Refusal::NoMemory);
+    };
+    Ok(count as u64 + 1)
+}
+
+// Whether a store has failed that was refused so, and had failed before or had not.
+fn fails_by(failed: bool, refusal: &Refusal) -> bool
+    ensures { result ≡ failed_by failed refusal.now }
+{
+    match refusal {
+        Refusal::DiskWrite => true,
+        _ => failed,
     }
 }
 

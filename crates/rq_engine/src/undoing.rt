@@ -8,7 +8,8 @@ ghost use Rattle.rq_engine.specs.Earlier.{on, IsEarlier};
 ghost use Rattle.rq_model.specs.declared.record.Record.{Record as AnyRecord};
 ghost use Rattle.rq_model.specs.Commits.{op_of};
 ghost use Rattle.rq_model.specs.Content.{said};
-ghost use Rattle.rq_engine.specs.KeptUp.{AnswerCounts, HasReadPages, HasTried, KeepsDevices, RefusedButRead};
+ghost use Rattle.rq_engine.specs.KeptUp.{AnswerCounts, HasReadPages, HasTried, IsGivenBy, KeepsDevices, RefusedButRead};
+ghost use Rattle.rq_sound.specs.Plans.{AreUnlatched};
 ghost use Rattle.rq_engine.specs.Answers.{AnswersLegally};
 ghost use Rattle.rq_engine.specs.Applied.{TakesUnlatched};
 ghost use Rattle.rq_engine.specs.Invariant.{IsDoneConsistent, IsLogged, end_of};
@@ -49,7 +50,7 @@ impl<P: PageDevice, L: LogDevice, B: Level> Engine<P, L, B> {
     ///
     /// # Errors
     /// `Failed`, `UnknownTransaction`, `NotOpen` where it is not aborting, `Unfinished`, `LogFull`, `Latched`,
-    /// `NoMemory`; of a store that is not sound also `Damaged`.
+    /// `PoolFull`, `NoMemory`, `DiskRead`, `DiskWrite`; of a store that is not sound also `Damaged`.
     pub fn undo_next(&mut self, txn: Txn) -> Result<Option<Sub>, Refusal>
         ensures answered { AnswersLegally P.PageDevice L.LogDevice self.old (Undo_next txn) undoing_of result self.new }
         ensures sizes { self.new.state.sizes ≡ self.old.state.sizes }
@@ -77,8 +78,8 @@ impl<P: PageDevice, L: LogDevice, B: Level> Engine<P, L, B> {
         }
     }
 
-    // Has the inverse of a finished operation planned from the slots as they are. Takes all that its steps and its end
-    // need, and lets it begin.
+    // Has the inverse of a finished operation planned from the slots as they are. Takes its frames and all that its steps and its
+    // end need, and lets it begin.
     fn start_inverse(&mut self, txn: Txn, number: u64, done: &Finished) -> Result<(), Refusal>
         requires ready { IsTurnedBack self.old.state txn number (Some done.now) }
         requires kept { IsDoneConsistent self.old.state.sizes done.now }
@@ -90,7 +91,7 @@ impl<P: PageDevice, L: LogDevice, B: Level> Engine<P, L, B> {
         // Of an honest one.
         ensures started { P.honest self.new.pages → IsStartOf self.old.state (Undo done.now.deed)
             (HasTurnedBack self.old.state txn number done.now self.new.state) result }
-        ensures answered { P.honest self.new.pages → BeginsAsPlanned self.old.state (to_undo (end_of txn done.now))
+        ensures answered { IsGivenBy P.PageDevice result self.new → BeginsAsPlanned self.old.state (to_undo (end_of txn done.now))
             (λ plan. self.new.state ≡ turned_back self.old.state txn number done.now plan.writes.items) result }
     {
         match self.plan_inverse(&op_end_of(txn, done)) {
@@ -119,14 +120,14 @@ impl<P: PageDevice, L: LogDevice, B: Level> Engine<P, L, B> {
         ensures counts { AnswerCounts P.PageDevice result self.old self.new }
         ensures causes { IfErr result MayRefuse }
         ensures lawful { IfOk result (IsLawfulInverse self.old.state.sizes) }
+        ensures free { IfOk result (λ p. AreUnlatched self.old.state p.writes.items) }
         ensures few { (d : Deed) → deed_back told.now ≡ Some d
             → IfOk result (λ plan. length plan.writes.items + 1 ≤ undo_cost (Some (op_of (said d)))) }
-        // Of an honest one.
-        ensures answered { P.honest self.new.pages → LevelsAnswer self.old.state (to_undo told.now) result }
-        ensures planned { P.honest self.new.pages → (d : Deed) → deed_back told.now ≡ Some d → IsDeedOf self.old.state.sizes d
+        // Of an honest one that did not fail.
+        ensures answered { IsGivenBy P.PageDevice result self.new → LevelsAnswer self.old.state (to_undo told.now) result }
+        ensures planned { IsGivenBy P.PageDevice result self.new → (d : Deed) → deed_back told.now ≡ Some d → IsDeedOf self.old.state.sizes d
             → IsPlanned (known_part self.old.state) (Undo d) result }
     {
-        self.pages.shows_framed();
         let room = self.transactions.spare();
         self.planner.plan_inverse(self.alloc, room, &mut self.pages, &self.transactions, told)
     }

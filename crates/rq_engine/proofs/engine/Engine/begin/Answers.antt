@@ -13,6 +13,7 @@ use Rattle.rq_engine.proofs.Opened.{state_is}
 use Rattle.rq_engine.proofs.Listing.{begun_lists}
 use Rattle.rq_engine.specs.Lists.{IsBegun}
 use Rattle.rq_engine.specs.Earlier.{on}
+use Rattle.rq_engine.proofs.Frames.{fixed_begun}
 use Rattle.rq_engine.proofs.engine.Engine.begin.Goals as goal
 
 pub begin-requires-clause-rising : goal.begin-requires-clause-rising
@@ -30,7 +31,7 @@ returns-clause-answered g c h earlier long k =
     (abort_steps.begins (on earlier c.args.self.now.state) k c.in_ok-check_running.ensures.running (few (on earlier c.args.self.now.state) 18446744073709551615 full max)))
 
 pub invariant_of-self-2 : goal.invariant_of-self-2
-invariant_of-self-2 g c = record { kept = rw (c.in_ok-begin.ensures.ok) (kept_begun _ _ _ _ c.self.invariant.kept); durable = c.self.invariant.durable; cells = c.self.invariant.cells }
+invariant_of-self-2 g c = record { kept = rw (c.in_ok-begin.ensures.ok) (kept_begun _ _ _ _ c.self.invariant.kept); durable = c.self.invariant.durable; cells = c.self.invariant.cells; frames_are = rw (c.in_ok-begin.ensures.ok) (fixed_begun _ _ _ c.self.invariant.frames_are) }
 
 pub returns-clause-lists : goal.returns-clause-lists
 returns-clause-lists g c =

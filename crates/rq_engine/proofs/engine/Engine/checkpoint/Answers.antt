@@ -74,4 +74,5 @@ invariant_of-self g c =
           (ap (λ l. l.records) c.forget_force.ensures) (ap (λ l. l.reserved) c.forget_force.ensures) (λ e. ap (λ l. l.failed) c.forget_force.ensures ∙ k.kept.fails e);
       durable = rw (c.forget_force.ensures) k.durable;
       cells = k.cells;
+      frames_are = k.frames_are;
     }

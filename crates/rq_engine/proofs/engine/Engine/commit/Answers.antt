@@ -13,6 +13,7 @@ use Rattle.rq_engine.proofs.Earlier.{from_inside_on, full_on, long as records_lo
 use Rattle.rq_engine.proofs.Refusals.{commit_memory, refuse_full}
 use Rattle.rq_model.specs.History.Call.{Commit}
 use Rattle.rq_model.specs.declared.refusal.Refusal.TheVariants as why
+use Rattle.rq_engine.proofs.Frames.{fixed_without}
 use Rattle.rq_engine.proofs.engine.Engine.commit.Goals as goal
 
 pub append-lsn-requires-clause-record : goal.append-lsn-requires-clause-record
@@ -30,6 +31,7 @@ invariant_of-self-2 g c =
           (commit_kept _ _ _ _ c.in_ok-check_open.field-0 c.args.txn _ c.release.new.self _ c.self.invariant.kept ready full);
       durable = rw (c.append-lsn.ensures.settled, c.in_ok-reserve.ensures.ok) c.self.invariant.durable;
       cells = c.self.invariant.cells;
+      frames_are = rw (c.end.ensures) (fixed_without c.self.inside.transactions c.args.txn c.in_ok-check_open.field-0 c.self.invariant.kept.distinct ready _ c.self.invariant.frames_are);
     }
 
 pub returns-clause-answered : goal.returns-clause-answered

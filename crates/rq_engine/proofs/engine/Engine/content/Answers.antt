@@ -1,14 +1,14 @@
 use Rattle.std.proofs.Common.{rules, map, refl, sym, ap, subst, ◌∙◌}
 use Rattle.rq_content.specs.Read.{group_of}
 use Rattle.rq_txn.specs.Rows.{any_under}
-use Rattle.rq_model.specs.declared.refusal.Refusal.TheVariants as why
 use Rattle.rq_model.specs.History.Call.{Show}
 use Rattle.rq_model.specs.Replay.Reply.{Gave_content, Gave_refusal}
 use Rattle.rq_sound.specs.ModelSteps.{IsModelStep}
 use Rattle.rq_store.specs.State.{State}
-use Rattle.rq_engine.proofs.Calls.{content_done, content_busy, content_passes}
-use Rattle.rq_engine.proofs.KeptUp.{content_counts, content_leaves, none_outside}
-use Rattle.rq_engine.proofs.Refusals.{no_memory}
+use Rattle.rq_engine.proofs.Calls.{content_done, content_busy, content_refused}
+use Rattle.rq_planner.proofs.Readings.{knows_read}
+use Rattle.rq_engine.proofs.Keeping.{kept_read}
+use Rattle.rq_engine.proofs.KeptUp.{content_counts, content_leaves}
 use Rattle.rq_engine.proofs.Tested.{show_busy, show_failed}
 use Rattle.rq_engine.specs.Tested.{tested}
 use Rattle.rq_engine.proofs.Opened.{state_is}
@@ -21,9 +21,16 @@ use Rattle.rq_engine.proofs.engine.Engine.content.Goals.{in-Ok, in-Err}
 pub returns-then-any_under_way-clause-answered : goal.returns-then-any_under_way-clause-answered
 returns-then-any_under_way-clause-answered g c h earlier long = content_busy (on earlier c.args.self.now.state) c.in_ok-check_running.ensures.running (ap (λ (s : State). any_under s.rows) (sym (state_is c.self.view_is)) ∙ sym c.if-any_under_way.ensures)
 
--- levels know the slots as they were: each page stands in a frame, so none is read
+-- pages were perhaps read
 pub invariant_of-self : goal.invariant_of-self
-invariant_of-self g c = rw (c.content.ensures.read.stood c.shows_framed.ensures) c.self.invariant
+invariant_of-self g c =
+    let read = c.content.ensures.read in
+    record {
+      kept = rw ((read.kept 0).sizes) (kept_read c.content.new.pages.images c.self.invariant.kept);
+      durable = c.self.invariant.durable;
+      cells = knows_read g.P.PageDevice c.self.inside.pages c.content.new.pages c.self.inside.planner read c.self.invariant.cells;
+      frames_are = rw (read.frames) c.self.invariant.frames_are;
+    }
 
 pub returns-clause-answered : goal.returns-clause-answered
 returns-clause-answered g c = elim c.match-content.branch [
@@ -38,9 +45,7 @@ returns-clause-answered g c = elim c.match-content.branch [
       let s = on earlier c.args.self.now.state in
       let kept = c.content.ensures.read.kept 0 in
       let none = w.in-Err.ensures.sound h.0 s k (ap (λ (s : State). s.sizes) (sym (state_is c.self.view_is))) (ap (λ (s : State). s.images) (sym (state_is c.self.view_is))) (ap (λ (s : State). s.rows) (sym (state_is c.self.view_is))) idle in
-      let memory = none_outside g.P.PageDevice _ _ _ _ c.shows_framed.ensures w.in-Err.ensures.refused none in
-      rw (memory, kept.sizes, kept.images h.0) (subst (λ (t : State). IsModelStep s Show (Gave_refusal why.NoMemory) (on earlier t) × IsCausedIn s Show why.NoMemory) (sym (state_is c.self.view_is))
-      (no_memory s _ c.in_ok-check_running.ensures.running (λ _. content_passes s c.in_ok-check_running.ensures.running idle) (λ k. refl) k)))
+      rw (kept.sizes, kept.images h.0) (subst (λ (t : State). IsModelStep s Show (Gave_refusal w.in-Err.refusal) (on earlier t) × IsCausedIn s Show w.in-Err.refusal) (sym (state_is c.self.view_is)) (content_refused s c.in_ok-check_running.ensures.running idle w.in-Err.refusal none k)))
 ]
 
 pub returns-clause-refused : goal.returns-clause-refused
@@ -64,3 +69,22 @@ returns-in_err-check_running-clause-refused g c =
 
 pub returns-then-any_under_way-clause-refused : goal.returns-then-any_under_way-clause-refused
 returns-then-any_under_way-clause-refused g c = show_busy c.args.self.now c.in_ok-check_running.ensures.running (ap (λ (s : State). any_under s.rows) (sym (state_is c.self.view_is)) ∙ sym c.if-any_under_way.ensures)
+
+pub returns-clause-lists : goal.returns-clause-lists
+returns-clause-lists g c honest =
+    let kept = c.content.ensures.read.kept 0 in
+    elim c.match-content.branch [
+      | in-Ok w ↦ rw (w.result-is, kept.sizes, kept.images honest) (state_is c.self.view_is)
+      | in-Err w ↦ rw (w.result-is) tt
+    ]
+
+pub returns-clause-shown : goal.returns-clause-shown
+returns-clause-shown g c =
+    let kept = c.content.ensures.read.kept 0 in
+    elim c.match-content.branch [
+      | in-Ok w ↦ rw (w.result-is, kept.sizes) (ap (λ (s : State). record s { images = c.content.new.pages.images }) (state_is c.self.view_is))
+      | in-Err w ↦ rw (w.result-is) tt
+    ]
+
+pub returns-clause-pages : goal.returns-clause-pages
+returns-clause-pages g c = rw (← c.self.view_is) (c.content.ensures.read.kept _, c.content.ensures.read.device)

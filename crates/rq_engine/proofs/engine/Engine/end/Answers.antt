@@ -7,6 +7,8 @@ use Rattle.rq_model.proofs.Deeds.{has_level}
 use Rattle.rq_engine.proofs.Calls.{AllMade, going_range, going_owed, end_fits, end_room, end_kept}
 use Rattle.rq_txn.specs.declared.Aim.TheVariants.{Doing}
 use Rattle.rq_engine.proofs.Opened.{state_is}
+use Rattle.rq_engine.proofs.Frames.{fixed_finished, going_few, going_stored}
+use Rattle.rq_txn.specs.Rows.{row_finished}
 use Rattle.rq_engine.proofs.engine.Engine.end.Goals as goal
 
 pub append_op_end-lsn-requires-clause-record : goal.append_op_end-lsn-requires-clause-record
@@ -27,6 +29,14 @@ append_op_end-lsn-requires-clause-room g c =
     let d : length c.bytes.result.now ≡ length (spelled_deed c.args.deed.now) = ap length c.bytes.ensures.spelled in
     omega (arith, r, d)
 
+pub pages_under_way-pages-requires : goal.pages_under_way-pages-requires
+pages_under_way-pages-requires g c =
+    let h = subst (λ (s : State). IsUnderWay s c.args.sub (AllMade (Doing c.args.deed.now))) (sym (state_is c.self.view_is)) c.requires.ready in
+    going_few _ _ _ _ c.self.invariant.kept c.args.sub (AllMade (Doing c.args.deed.now)) h
+
+pub let_all-requires : goal.let_all-requires
+let_all-requires g c = record { of_store = rw (c.as_slice.ensures) (going_stored _ _ _ _ c.self.invariant.kept c.args.sub c.pages_under_way-pages.result c.pages_under_way-pages.ensures) }
+
 pub overflow_sub-self : goal.overflow_sub-self
 overflow_sub-self g c =
     let h = subst (λ (s : State). IsUnderWay s c.args.sub (AllMade (Doing c.args.deed.now))) (sym (state_is c.self.view_is)) c.requires.ready in
@@ -39,9 +49,10 @@ invariant_of-self g c =
     let room : c.append_op_end-lsn.new.self.reserved + (30 + length (spelled_deed c.args.deed.now)) ≡ c.self.inside.log.reserved = (let a = c.append_op_end-lsn.ensures.reserved in omega (arith, a, d)) in
     let failed : c.self.inside.log.failed ≡ c.append_op_end-lsn.new.self.failed = c.self.invariant.kept.fails (ap (λ (s : State). s.failed) (state_is c.self.view_is) ∙ c.requires.running) ∙ sym c.append_op_end-lsn.ensures.failed in
     record {
-      kept = rw (c.note.ensures, c.leave_out_taken.ensures, c.append_op_end-lsn.ensures.records, c.append_op_end-lsn.ensures.forced, sym failed)
+      kept = rw (c.note.ensures, c.let_all.ensures.still.sizes, c.let_all.ensures.still.images, c.leave_out_taken.ensures, c.append_op_end-lsn.ensures.records, c.append_op_end-lsn.ensures.forced, sym failed)
           (end_kept _ _ _ _ c.self.invariant.kept c.args.sub (Doing c.args.deed.now) h c.args.deed.now _ _ c.append_op_end-lsn.new.self.reserved room (let l = c.append_op_end-lsn.ensures.lsn in let r = ap length c.append_op_end-lsn.ensures.records in omega (arith, l, r)) refl (end_fits _ _ _ _ c.self.invariant.kept c.args.sub (Doing c.args.deed.now) h).2
           (ap (λ (n : ℕ). OpEnd c.args.sub.txn c.args.sub.number n c.bytes.result.now) c.level.ensures ∙ ap (λ (b : List ℕ). OpEnd c.args.sub.txn c.args.sub.number (deed_level c.args.deed.now) b) c.bytes.ensures.spelled));
       durable = rw (c.append_op_end-lsn.ensures.settled) c.self.invariant.durable;
-      cells = c.self.invariant.cells;
+      cells = rw (c.let_all.ensures.still.sizes, c.let_all.ensures.still.images) c.self.invariant.cells;
+      frames_are = rw (c.note.ensures) (fixed_finished _ _ _ _ c.self.invariant.kept c.args.sub c.pages_under_way-pages.result c.pages_under_way-pages.ensures (row_finished _) (λ r. refl) c.self.inside.pages.frames c.let_all.new.self.frames (rw (← c.as_slice.ensures) c.let_all.ensures.free) (rw (← c.as_slice.ensures) c.let_all.ensures.stay) c.self.invariant.frames_are);
     }

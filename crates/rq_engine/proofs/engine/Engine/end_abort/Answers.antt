@@ -10,6 +10,7 @@ use Rattle.rq_engine.proofs.Calls.{commit_range}
 use Rattle.rq_engine.proofs.Opened.{state_is}
 use Rattle.rq_engine.specs.Earlier.{on}
 use Rattle.rq_engine.proofs.Earlier.{from_inside_on, full_on}
+use Rattle.rq_engine.proofs.Frames.{fixed_without}
 use Rattle.rq_engine.proofs.engine.Engine.end_abort.Goals as goal
 
 pub returns-then-is_log_full-clause-answered : goal.returns-then-is_log_full-clause-answered
@@ -37,6 +38,7 @@ invariant_of-self-2 g c =
           (aborted_kept _ _ _ _ back.0 c.args.txn _ c.release.new.self c.self.invariant.kept idle full);
       durable = rw (c.append.ensures.settled, c.in_ok-reserve.ensures.ok) c.self.invariant.durable;
       cells = c.self.invariant.cells;
+      frames_are = rw (c.end.ensures) (fixed_without c.self.inside.transactions c.args.txn back.0 c.self.invariant.kept.distinct idle _ c.self.invariant.frames_are);
     }
 
 pub returns-clause-answered : goal.returns-clause-answered

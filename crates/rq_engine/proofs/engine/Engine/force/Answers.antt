@@ -11,12 +11,12 @@ use Rattle.rq_engine.proofs.engine.Engine.force.Goals as goal
 pub invariant_of-self : goal.invariant_of-self
 invariant_of-self g c =
     let running = ap (λ (s : State). s.failed) (state_is c.self.view_is) ∙ c.in_ok-check_running.ensures.running in
-    record { kept = kept_device _ _ c.force.new.self.failed _ _ c.force.new.self.reserved c.force.new.self.forced c.self.inside.failed c.force.new.self.records c.self.invariant.kept c.in-Ok.ensures.records c.in-Ok.ensures.reserved (λ e. c.in-Ok.ensures.ok.2); durable = c.in-Ok.ensures.settled.0; cells = c.self.invariant.cells }
+    record { kept = kept_device _ _ c.force.new.self.failed _ _ c.force.new.self.reserved c.force.new.self.forced c.self.inside.failed c.force.new.self.records c.self.invariant.kept c.in-Ok.ensures.records c.in-Ok.ensures.reserved (λ e. c.in-Ok.ensures.ok.2); durable = c.in-Ok.ensures.settled.0; cells = c.self.invariant.cells; frames_are = c.self.invariant.frames_are }
 
 pub invariant_of-self-in-Err : goal.invariant_of-self-in-Err
 invariant_of-self-in-Err g c =
     let running = c.self.invariant.kept.fails (ap (λ (s : State). s.failed) (state_is c.self.view_is) ∙ c.in_ok-check_running.ensures.running) in
-    record { kept = kept_device _ _ c.force.new.self.failed _ _ c.force.new.self.reserved c.force.new.self.forced true c.force.new.self.records c.self.invariant.kept c.in-Err.ensures.records c.in-Err.ensures.reserved (λ e. absurd (true≢false e)); durable = rw (c.in-Err.ensures.as_before.1) c.self.invariant.durable; cells = c.self.invariant.cells }
+    record { kept = kept_device _ _ c.force.new.self.failed _ _ c.force.new.self.reserved c.force.new.self.forced true c.force.new.self.records c.self.invariant.kept c.in-Err.ensures.records c.in-Err.ensures.reserved (λ e. absurd (true≢false e)); durable = rw (c.in-Err.ensures.as_before.1) c.self.invariant.durable; cells = c.self.invariant.cells; frames_are = c.self.invariant.frames_are }
 
 pub returns-in-Ok-clause-answered : goal.returns-in-Ok-clause-answered
 returns-in-Ok-clause-answered g c h earlier long =

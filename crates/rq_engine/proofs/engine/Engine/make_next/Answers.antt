@@ -13,6 +13,7 @@ use Rattle.rq_engine.specs.Answers.{IsUnderWay}
 use Rattle.rq_engine.proofs.Calls.{Next, MakesNext, under_is, going_range, going_owed, next_slot, next_room, next_more, next_kept}
 use Rattle.rq_planner.proofs.Knowing.{knows_put}
 use Rattle.rq_engine.proofs.Opened.{state_is, changed_is}
+use Rattle.rq_engine.proofs.Frames.{fixed_stepped}
 use Rattle.rq_engine.proofs.engine.Engine.make_next.Goals as goal
 
 pub append_page_op-lsn-requires-clause-record : goal.append_page_op-lsn-requires-clause-record
@@ -67,6 +68,7 @@ invariant_of-self g c =
       cells = rw (c.set_slot.ensures.sizes)
           (knows_put c.self.inside.pages.sizes c.self.inside.pages.images c.set_slot.new.self.images c.self.inside.planner c.noted.new.self c.in-Some-next_write.write.now.at c.in-Some-next_write.write.now.after _
           (next_slot _ _ _ _ c.self.invariant.kept c.args.sub c.in-Some-next_write.write.now h).place c.set_slot.ensures.page c.set_slot.ensures.others c.noted.ensures c.self.invariant.cells);
+      frames_are = rw (c.step.ensures, c.set_slot.ensures.frames.0) (fixed_stepped _ _ _ _ c.self.invariant.kept c.args.sub (Next c.in-Some-next_write.write.now) h _ c.self.invariant.frames_are);
     }
 
 pub returns-clause-made : goal.returns-clause-made

@@ -1,8 +1,7 @@
 use Rattle.std.proofs.lemmas.Result.{IfOk-weaker}
-use Rattle.std.proofs.Common.{IfOk, List, refl, subst}
+use Rattle.std.proofs.Common.{IfOk, List, inr, refl, subst}
 use Rattle.rq_txn.specs.Rows.{Row}
 use Rattle.rq_store.specs.State.{State}
-use Rattle.rq_pool.proofs.Fetched.{framed_reads}
 use Rattle.rq_planner.specs.Answered.{IsPlanned}
 use Rattle.rq_planner.specs.Asked.{IsTaskOf, known_from}
 use Rattle.rq_planner.specs.Asked.Asked.{Do}
@@ -15,6 +14,7 @@ use Rattle.rq_engine.proofs.Keeping.{kept_read}
 use Rattle.rq_engine.proofs.KeptUp.{plan_counts, plan_reads}
 use Rattle.rq_engine.proofs.Leveled.{own_plan}
 use Rattle.rq_engine.proofs.Opened.{state_is}
+use Rattle.rq_sound.specs.Plans.{AreUnlatched}
 use Rattle.rq_engine.proofs.engine.Engine.plan.Goals as goal
 
 pub plan-requires-clause-known : goal.plan-requires-clause-known
@@ -31,22 +31,28 @@ invariant_of-self g c =
       kept = rw (c.spare-room.ensures, (read.kept 0).sizes) (kept_read c.plan.new.pages.images c.self.invariant.kept);
       durable = c.self.invariant.durable;
       cells = rw (c.plan.ensures.same) (knows_read g.P.PageDevice c.self.inside.pages c.plan.new.pages c.self.inside.planner read c.self.invariant.cells);
+      frames_are = rw (c.spare-room.ensures, read.frames) c.self.invariant.frames_are;
     }
 
 pub returns-clause-lawful : goal.returns-clause-lawful
 returns-clause-lawful g c = subst (λ (s : State). IfOk c.plan.result (IsLawfulPlan s.sizes c.args.op.now.level)) (state_is c.self.view_is) (IfOk-weaker c.plan.result _ _ (λ p is. is.lawful) c.plan.ensures.lawful)
 
+pub returns-clause-free : goal.returns-clause-free
+returns-clause-free g c =
+    subst (λ (s : State). IfOk c.plan.result (λ p. AreUnlatched s p.writes.items)) (state_is c.self.view_is)
+    (subst (λ (rows : List Row). IfOk c.plan.result (λ p. AreUnlatched (known_from c.self.inside.pages rows) p.writes.items)) c.spare-room.ensures c.plan.ensures.free)
+
 pub returns-clause-planned : goal.returns-clause-planned
-returns-clause-planned g c honest d asked =
+returns-clause-planned g c given d asked =
     subst (λ (s : State). IsTaskOf s.sizes d → IsPlanned (known_part s) (Do d) c.plan.result) (state_is c.self.view_is)
-    (subst (λ (rows : List Row). IsTaskOf c.self.inside.pages.sizes d → IsPlanned (known_from c.self.inside.pages rows) (Do d) c.plan.result) c.spare-room.ensures (c.plan.ensures.planned (framed_reads g.P.PageDevice c.plan.result c.self.inside.pages c.plan.new.pages c.shows_framed.ensures c.plan.ensures.read) (Do d) (asks_to_do c.args.op.now d c.requires.forward asked)))
+    (subst (λ (rows : List Row). IsTaskOf c.self.inside.pages.sizes d → IsPlanned (known_from c.self.inside.pages rows) (Do d) c.plan.result) c.spare-room.ensures (c.plan.ensures.planned (inr given.0, given.1) (Do d) (asks_to_do c.args.op.now d c.requires.forward asked)))
 
 pub returns-clause-answered : goal.returns-clause-answered
-returns-clause-answered g c honest =
+returns-clause-answered g c given =
     subst (λ (s : State). LevelsAnswer s (to_job c.args.op.now) c.plan.result) (state_is c.self.view_is) (record {
       levels = c.self.inside.planner;
       knows = c.self.invariant.cells;
-      answered = subst (λ (rows : List Row). to_job c.args.op.now (known_from c.self.inside.pages rows) c.self.inside.planner c.plan.result) c.spare-room.ensures (c.plan.ensures.answered (framed_reads g.P.PageDevice c.plan.result c.self.inside.pages c.plan.new.pages c.shows_framed.ensures c.plan.ensures.read));
+      answered = subst (λ (rows : List Row). to_job c.args.op.now (known_from c.self.inside.pages rows) c.self.inside.planner c.plan.result) c.spare-room.ensures (c.plan.ensures.answered (inr given.0, given.1));
     })
 
 pub returns-clause-read : goal.returns-clause-read

@@ -8,6 +8,9 @@ use Rattle.rq_store.specs.State.{State}
 use Rattle.rq_engine.specs.Invariant.{EndFits}
 use Rattle.rq_engine.proofs.Leveled.{some_told, tells_itself}
 use Rattle.rq_engine.proofs.Opened.{state_is}
+use Rattle.rq_engine.specs.KeptUp.{IsLeftBy, RefusalCounts}
+use Rattle.rq_engine.specs.Opened.{OpenStore}
+use Rattle.rq_engine.proofs.Locking.{counts_but_ends, given_back, left_but_ends, with_ends}
 use Rattle.rq_engine.proofs.engine.Engine.start.Goals as goal
 
 pub launch-requires-clause-fits : goal.launch-requires-clause-fits
@@ -25,7 +28,27 @@ launch-requires-clause-fits g c =
     let fits : EndFits (Doing c.new.result) = (omega (arith, size, some), omega (arith, size, within), subst TellsItself d (tells_itself level bytes told)) in
     record {
       made = refl;
+      few = c.requires.lawful.count;
       slots = subst (λ (x : State). AreSlotWrites x.sizes c.args.plan.writes.items) (sym (state_is c.self.view_is)) c.requires.lawful.slots;
       sender = subst (λ (x : State). IsDeedOf x.sizes c.new.result) (sym (state_is c.self.view_is)) sender;
       fits = fits;
     }
+
+-- a lock was taken, and is given back
+pub returns-in-Err-clause-counts : goal.returns-in-Err-clause-counts
+returns-in-Err-clause-counts g c =
+    let r = c.in-Err.refusal in
+    let new = c.launch.new.self in
+    let tried = subst (λ (o : OpenStore _ _). RefusalCounts g.P.PageDevice r (with_ends c.take.new.self o) new) c.self.view_is c.in-Err.ensures.counts in
+    subst (λ (o : OpenStore _ _). RefusalCounts g.P.PageDevice r c.args.self.now (with_ends c.undo_take.new.self o)) (sym c.self-2.view_is) (counts_but_ends g.P.PageDevice r c.args.self.now new c.take.new.self c.undo_take.new.self tried)
+
+pub returns-in-Err-clause-left : goal.returns-in-Err-clause-left
+returns-in-Err-clause-left g c =
+    let r = c.in-Err.refusal in
+    let old = c.args.self.now.state in
+    let new = c.launch.new.self.state in
+    let ends : c.self-2.inside.ends ≡ c.take.new.self = ap (λ (s : State). s.ends) (state_is c.self-2.view_is ∙ c.in-Err.ensures.left) in
+    let back : c.undo_take.new.self ≡ old.ends =
+    given_back c.args.txn c.args.end c.in-Ok.newly c.self.inside.ends c.self-2.inside.ends c.undo_take.new.self (ends ∙ c.in-Ok.ensures.taken) c.in-Ok.ensures.newly c.undo_take.ensures ∙ ap (λ (s : State). s.ends) (state_is c.self.view_is) in
+    let tried = subst (λ (s : State). IsLeftBy (record s { ends = c.take.new.self }) r new) (state_is c.self.view_is) c.in-Err.ensures.left in
+    subst (λ (s : State). IsLeftBy old r (record s { ends = c.undo_take.new.self })) (sym (state_is c.self-2.view_is)) (left_but_ends old new r c.take.new.self c.undo_take.new.self tried back)

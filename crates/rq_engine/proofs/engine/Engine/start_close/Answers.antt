@@ -1,5 +1,4 @@
 use Rattle.std.proofs.Common.{rules, refl, ap}
-use Rattle.rq_model.specs.declared.refusal.Refusal.{Refusal}
 use Rattle.rq_model.specs.History.Call.{Start_close}
 use Rattle.rq_groups.specs.declared.End.TheVariants.{Sending}
 use Rattle.rq_level.specs.Ops.{Job}
@@ -8,14 +7,13 @@ use Rattle.rq_planner.specs.Answered.{IsHeldUp}
 use Rattle.rq_planner.specs.Asked.Asked.{Do}
 use Rattle.rq_planner.specs.Asked.Task.{Chain}
 use Rattle.rq_planner.proofs.Asking.{chained}
-use Rattle.rq_engine.specs.Answers.{Refuses}
 use Rattle.rq_engine.specs.Earlier.{on}
 use Rattle.rq_engine.specs.Plans.{HasStarted, known_part, under_plan}
 use Rattle.rq_engine.proofs.CloseCalls.{close_done, refused}
 use Rattle.rq_engine.proofs.Latches.{close_refused, close_unlatched}
 use Rattle.rq_engine.proofs.Leveled.{close_held, close_plan, latched_more, refused_for}
 use Rattle.rq_engine.proofs.Refusals.{no_memory}
-use Rattle.rq_engine.proofs.KeptUp.{begun_by, read_state, tried_leaves}
+use Rattle.rq_engine.proofs.KeptUp.{begun_by, start_left, tried_leaves}
 use Rattle.rq_engine.proofs.Tested.{close_unready}
 use Rattle.rq_engine.proofs.engine.Engine.start_close.Goals as goal
 
@@ -66,8 +64,10 @@ pub returns-clause-answered : goal.returns-clause-answered
 returns-clause-answered g c h earlier long k =
     let s = on earlier c.args.self.now.state in
     let p = c.in-Err.ensures.started h.0 (Chain (Close c.args.sender)) (chained c.in-Ok.op.level c.in-Ok.op.bytes _ c.in-Ok.ensures.told) in
-    rw (read_state g.P.PageDevice _ _ (c.in-Err.ensures.tried (Chain (Close c.args.sender)) (chained c.in-Ok.op.level c.in-Ok.op.bytes _ c.in-Ok.ensures.told)).read h.0) (refused_for (λ (r : Refusal). Refuses s (Start_close c.args.txn c.args.sender) r) (IsHeldUp (known_part s) (Do (Chain (Close c.args.sender)))) c.in-Err.refusal p.causes (p.sound earlier long k (c.in_ok-check_close.ensures.unclosed earlier long k c.in_ok-number.ensures.passes))
-    (no_memory s _ c.in_ok-number.ensures.running (λ k. c.in_ok-check_close.ensures.passes earlier long k c.in_ok-number.ensures.passes) (λ k. refl)) (λ held. refused s c.args.txn c.args.sender c.in_ok-number.ensures.passes (λ k. c.in_ok-check_close.ensures.passes earlier long k c.in_ok-number.ensures.passes) (close_held s c.args.sender held)) k)
+    let t = c.in-Err.ensures.tried (Chain (Close c.args.sender)) (chained c.in-Ok.op.level c.in-Ok.op.bytes _ c.in-Ok.ensures.told) in
+    refused_for s _ (Start_close c.args.txn c.args.sender) (IsHeldUp (known_part s) (Do (Chain (Close c.args.sender)))) refl c.in_ok-number.ensures.running (λ k. refl) (λ k. c.in_ok-check_close.ensures.passes earlier long k c.in_ok-number.ensures.passes) c.in-Err.refusal p.causes (p.sound earlier long k (c.in_ok-check_close.ensures.unclosed earlier long k c.in_ok-number.ensures.passes))
+    (ap (on earlier) (start_left g.P.PageDevice c.args.self.now _ c.in-Err.refusal t.devices t.left h.0))
+    (no_memory s _ c.in_ok-number.ensures.running (λ k. c.in_ok-check_close.ensures.passes earlier long k c.in_ok-number.ensures.passes) (λ k. refl)) (λ held. refused s c.args.txn c.args.sender c.in_ok-number.ensures.passes (λ k. c.in_ok-check_close.ensures.passes earlier long k c.in_ok-number.ensures.passes) (close_held s c.args.sender held)) k
 
 pub returns-clause-latched : goal.returns-clause-latched
 returns-clause-latched g c earlier long k = latched_more _ _ (close_refused (on earlier c.args.self.now.state) k c.args.txn c.args.sender) c.in-Err.refusal (c.in-Err.ensures.latched (Chain (Close c.args.sender)) (chained c.in-Ok.op.level c.in-Ok.op.bytes _ c.in-Ok.ensures.told))
@@ -84,7 +84,7 @@ returns-in-Ok-start_planned-clause-devices g c = (c.in-Ok-start_planned.ensures.
 pub returns-clause-refused : goal.returns-clause-refused
 returns-clause-refused g c =
     let p = c.in-Err.ensures.tried (Chain (Close c.args.sender)) (chained c.in-Ok.op.level c.in-Ok.op.bytes _ c.in-Ok.ensures.told) in
-    tried_leaves c.args.self.now c.start_planned.new.self (Start_close c.args.txn c.args.sender) refl (c.in_ok-check_close.ensures.tested c.in_ok-number.ensures.passes) c.in-Err.refusal p.causes p.read.lists
+    tried_leaves g.P.PageDevice c.args.self.now c.start_planned.new.self (Start_close c.args.txn c.args.sender) refl (c.in_ok-check_close.ensures.tested c.in_ok-number.ensures.passes) c.in-Err.refusal p.causes p.left
 
 pub returns-in-Ok-start_planned-clause-faults : goal.returns-in-Ok-start_planned-clause-faults
 returns-in-Ok-start_planned-clause-faults g c = (c.in-Ok-start_planned.ensures.tried (Chain (Close c.args.sender)) (chained c.in-Ok.op.level c.in-Ok.op.bytes _ c.in-Ok.ensures.told)).counts

@@ -1,5 +1,4 @@
 use Rattle.std.proofs.Common.{rules, refl, ap, arith}
-use Rattle.rq_model.specs.declared.refusal.Refusal.{Refusal}
 use Rattle.rq_model.specs.History.Call.{Start_mark}
 use Rattle.rq_groups.specs.declared.End.TheVariants.{Marking}
 use Rattle.rq_level.specs.Ops.{Job, Tagging}
@@ -7,7 +6,6 @@ use Rattle.rq_planner.specs.Answered.{IsHeldUp}
 use Rattle.rq_planner.specs.Asked.Asked.{Do}
 use Rattle.rq_planner.specs.Asked.Task.{Tag}
 use Rattle.rq_planner.proofs.Asking.{tagged}
-use Rattle.rq_engine.specs.Answers.{Refuses}
 use Rattle.rq_engine.specs.Earlier.{on}
 use Rattle.rq_engine.specs.Plans.{HasStarted, known_part, under_plan}
 use Rattle.rq_engine.proofs.Earlier.{long_on}
@@ -15,7 +13,7 @@ use Rattle.rq_engine.proofs.MarkCalls.{mark_done, refused}
 use Rattle.rq_engine.proofs.Latches.{mark_refused, mark_unlatched}
 use Rattle.rq_engine.proofs.Leveled.{latched_more, mark_held, mark_plan, refused_for}
 use Rattle.rq_engine.proofs.Refusals.{no_memory, not_full}
-use Rattle.rq_engine.proofs.KeptUp.{begun_by, read_state, tried_leaves}
+use Rattle.rq_engine.proofs.KeptUp.{begun_by, start_left, tried_leaves}
 use Rattle.rq_engine.proofs.Tested.{mark_unready}
 use Rattle.rq_engine.proofs.engine.Engine.start_mark.Goals as goal
 
@@ -80,8 +78,10 @@ returns-clause-answered g c h earlier long k =
     let p = c.in-Err.ensures.started h.0 (Tag mark) told in
     let few = not_full old 2 c.in_ok-check_mark.ensures.log in
     let n = long_on earlier old long in
-    rw (read_state g.P.PageDevice _ _ (c.in-Err.ensures.tried (Tag mark) told).read h.0) (refused_for (λ (r : Refusal). Refuses s (Start_mark c.args.txn c.args.client c.args.tag) r) (IsHeldUp (known_part s) (Do (Tag mark))) c.in-Err.refusal p.causes (p.sound earlier long k (omega (arith, few, n)))
-    (no_memory s _ c.in_ok-number.ensures.running (λ k. c.in_ok-check_mark.ensures.passes earlier c.args.tag long k c.in_ok-number.ensures.passes) (λ k. refl)) (λ held. refused s c.args.txn c.args.client c.args.tag c.in_ok-number.ensures.passes (λ k. c.in_ok-check_mark.ensures.passes earlier c.args.tag long k c.in_ok-number.ensures.passes) (mark_held s mark held)) k)
+    let t = c.in-Err.ensures.tried (Tag mark) told in
+    refused_for s _ (Start_mark c.args.txn c.args.client c.args.tag) (IsHeldUp (known_part s) (Do (Tag mark))) refl c.in_ok-number.ensures.running (λ k. refl) (λ k. c.in_ok-check_mark.ensures.passes earlier c.args.tag long k c.in_ok-number.ensures.passes) c.in-Err.refusal p.causes (p.sound earlier long k (omega (arith, few, n)))
+    (ap (on earlier) (start_left g.P.PageDevice c.args.self.now _ c.in-Err.refusal t.devices t.left h.0))
+    (no_memory s _ c.in_ok-number.ensures.running (λ k. c.in_ok-check_mark.ensures.passes earlier c.args.tag long k c.in_ok-number.ensures.passes) (λ k. refl)) (λ held. refused s c.args.txn c.args.client c.args.tag c.in_ok-number.ensures.passes (λ k. c.in_ok-check_mark.ensures.passes earlier c.args.tag long k c.in_ok-number.ensures.passes) (mark_held s mark held)) k
 
 pub returns-clause-latched : goal.returns-clause-latched
 returns-clause-latched g c earlier long k =
@@ -113,7 +113,7 @@ returns-clause-refused g c =
     let mark : Tagging = record { client = c.args.client; tag = c.args.tag } in
     let told = tagged c.in-Ok.op.level c.in-Ok.op.bytes _ (ap (λ (j : Job). j.level) c.in-Ok.ensures.op) c.in-Ok.ensures.told in
     let p = (c.in-Err.ensures.tried (Tag mark) told) in
-    tried_leaves c.args.self.now c.start_planned.new.self (Start_mark c.args.txn c.args.client c.args.tag) refl (c.in_ok-check_mark.ensures.tested c.args.tag c.in_ok-number.ensures.passes) c.in-Err.refusal p.causes p.read.lists
+    tried_leaves g.P.PageDevice c.args.self.now c.start_planned.new.self (Start_mark c.args.txn c.args.client c.args.tag) refl (c.in_ok-check_mark.ensures.tested c.args.tag c.in_ok-number.ensures.passes) c.in-Err.refusal p.causes p.left
 
 pub returns-in-Ok-start_planned-clause-faults : goal.returns-in-Ok-start_planned-clause-faults
 returns-in-Ok-start_planned-clause-faults g c =

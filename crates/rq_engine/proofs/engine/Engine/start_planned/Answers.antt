@@ -10,11 +10,11 @@ use Rattle.rq_planner.specs.Asked.Asked.{Do}
 use Rattle.rq_planner.specs.Lawful.{IsLawfulPlan}
 use Rattle.rq_planner.proofs.Asking.{asked_of}
 use Rattle.rq_engine.specs.Answers.{HasNothingUnderWay}
-use Rattle.rq_engine.specs.Earlier.{on}
 use Rattle.rq_engine.specs.Plans.{HasBegun, HasStarted, IsWithin, planned_of, records_of, started_with, under_plan}
 use Rattle.rq_engine.specs.Sends.{HasRoom}
-use Rattle.rq_engine.proofs.KeptUp.{read_state, tried_planned, tried_refused}
-use Rattle.rq_engine.proofs.Leveled.{asked_for, asked_stored, begins_planned, deed_plan, latched_refused, latched_then, never_failed, plain_memory, some_task, start_answered, start_refused, within}
+use Rattle.rq_sound.specs.Plans.{AreUnlatched}
+use Rattle.rq_engine.proofs.KeptUp.{but_same, may_start, read_state, tried_planned, tried_refused}
+use Rattle.rq_engine.proofs.Leveled.{asked_for, asked_stored, begins_planned, deed_plan, latched_refused, latched_then, never_failed, no_read, no_read_as, plain_begun, plan_refused, read_on, some_task, start_answered, within}
 use Rattle.rq_engine.proofs.SendCalls.{has_room}
 use Rattle.rq_engine.proofs.engine.Engine.start_planned.Goals as goal
 
@@ -47,21 +47,24 @@ start-requires-clause-log g c =
     let own = c.in-Ok.ensures.own d c.requires.may.is in
     subst (λ (x : State). HasRoom x c.in-Ok.plan.writes.items) (sym c.in-Ok.ensures.read.lists) (has_room s c.in-Ok.plan.writes.items (records_of d) c.requires.may.may.log own.few)
 
+pub start-requires-clause-unlatched : goal.start-requires-clause-unlatched
+start-requires-clause-unlatched g c = subst (λ (x : State). AreUnlatched x c.in-Ok.plan.writes.items) (sym c.in-Ok.ensures.read.lists) c.in-Ok.ensures.free
+
 pub returns-in-Ok-clause-tried : goal.returns-in-Ok-clause-tried
 returns-in-Ok-clause-tried g c d e =
     let s = c.args.self.now.state in
     let plan = planned_of c.level.result c.in-Ok.plan in
     let own = c.in-Ok.ensures.own d e in
-    tried_planned g.P.PageDevice c.args.self.now c.plan.new.self c.start.new.self (HasBegun s c.args.txn c.args.number c.args.end d) (change_row c.args.txn (row_started (under_plan c.args.number plan))) (with_end c.args.txn c.args.end) (c.in-Ok.ensures.read, c.in-Ok.ensures.counts)
+    tried_planned g.P.PageDevice (g.P.PageDevice.honest c.start.new.self.pages) c.args.self.now c.plan.new.self c.start.new.self (HasBegun s c.args.txn c.args.number c.args.end d) (change_row c.args.txn (row_started (under_plan c.args.number plan))) (with_end c.args.txn c.args.end) (c.in-Ok.ensures.read, c.in-Ok.ensures.counts)
     (record { plan = plan; asked = asked_for d c.in-Ok.plan c.level.result (c.level.ensures ∙ asked_of c.args.op.now.level c.args.op.now.bytes d e) own.asked; state = refl })
-    c.start.result c.start.ensures.started c.start.ensures.devices c.start.ensures.refusal c.start.ensures.refused
+    c.start.result c.start.ensures.started c.start.ensures.devices c.start.ensures.counts c.start.ensures.left c.start.ensures.causes
 
 pub returns-in-Err-clause-tried : goal.returns-in-Err-clause-tried
 returns-in-Err-clause-tried g c d e = tried_refused g.P.PageDevice c.args.self.now c.plan.new.self (HasBegun c.args.self.now.state c.args.txn c.args.number c.args.end d) c.in-Err.refusal c.in-Err.ensures.read c.in-Err.ensures.counts c.in-Err.ensures.causes
 
 pub returns-in-Ok-clause-latched : goal.returns-in-Ok-clause-latched
 returns-in-Ok-clause-latched g c d e =
-    latched_then c.args.self.now.state d c.in-Ok.plan c.start.result c.start.ensures.refusal (c.in-Ok.ensures.own d e).latched
+    latched_then c.args.self.now.state (g.P.PageDevice.honest c.start.new.self.pages) d c.in-Ok.plan c.start.result c.start.ensures.causes (c.in-Ok.ensures.own d e).latched
 
 pub returns-in-Err-clause-latched : goal.returns-in-Err-clause-latched
 returns-in-Err-clause-latched g c d e =
@@ -72,43 +75,42 @@ returns-in-Ok-clause-started g c honest d e =
     let s = c.args.self.now.state in
     let plan = c.in-Ok.plan in
     let inside : IsWithin s.sizes d = subst (λ (x : Task). IsWithin s.sizes x) (some_task c.requires.may.task d (sym c.requires.may.is ∙ e)) c.requires.may.may.inside in
-    let truly = subst g.P.PageDevice.honest c.start.ensures.devices.0 honest in
-    let is = c.in-Ok.ensures.planned truly d e (within s.sizes d inside) in
+    let truly = c.start.ensures.devices.0.honest honest in
+    let is = c.in-Ok.ensures.planned (truly, read_on plan) d e (within s.sizes d inside) in
     let lawful : IsLawfulPlan s.sizes c.level.result plan = subst (λ (n : ℕ). IsLawfulPlan s.sizes n plan) (sym c.level.ensures) c.in-Ok.ensures.lawful in
-    start_answered s (Do d) (HasStarted s c.args.txn c.args.number c.args.end d c.start.new.self.state) c.start.result is.free
+    start_answered s (Do d) (HasStarted s c.args.txn c.args.number c.args.end d c.start.new.self.state) (g.P.PageDevice.honest c.start.new.self.pages) honest c.start.result is.free
     (λ begun. record {
       plan = planned_of c.level.result plan;
       planned = deed_plan d plan c.level.result (c.level.ensures ∙ asked_of c.args.op.now.level c.args.op.now.bytes d e) s is.plan lawful;
-      state = begun ∙ ap (λ (x : State). started_with x c.args.txn c.args.number c.args.end (planned_of c.level.result plan)) (read_state g.P.PageDevice _ _ c.in-Ok.ensures.read truly);
+      state = but_same _ _ begun (c.start.ensures.devices.0.images honest) ∙ ap (λ (x : State). started_with x c.args.txn c.args.number c.args.end (planned_of c.level.result plan)) (read_state g.P.PageDevice _ _ c.in-Ok.ensures.read truly);
     })
-    c.start.ensures.started c.start.ensures.refusal
+    c.start.ensures.started c.start.ensures.causes
 
 pub returns-in-Err-clause-started : goal.returns-in-Err-clause-started
 returns-in-Err-clause-started g c honest d e =
     let s = c.args.self.now.state in
     let inside : IsWithin s.sizes d = subst (λ (x : Task). IsWithin s.sizes x) (some_task c.requires.may.task d (sym c.requires.may.is ∙ e)) c.requires.may.may.inside in
-    let is = c.in-Err.ensures.planned honest d e (within s.sizes d inside) in
-    start_refused s (Do d) _ c.in-Err.refusal is.causes (λ earlier long k may. is.sound (on earlier s) refl k may)
+    plan_refused s (Do d) _ c.in-Err.refusal (λ none. c.in-Err.ensures.planned (honest, no_read c.in-Err.refusal none) d e (within s.sizes d inside))
 
 pub returns-in-Ok-clause-plain : goal.returns-in-Ok-clause-plain
-returns-in-Ok-clause-plain g c = plain_memory c.start.result c.start.ensures.refusal
+returns-in-Ok-clause-plain g c = plain_begun (g.P.PageDevice.honest c.start.new.self.pages) c.start.result c.start.ensures.causes
 
 pub returns-in-Err-clause-plain : goal.returns-in-Err-clause-plain
-returns-in-Err-clause-plain g c = never_failed c.in-Err.refusal c.in-Err.ensures.causes
+returns-in-Err-clause-plain g c = never_failed c.in-Err.refusal (may_start c.in-Err.refusal c.in-Err.ensures.causes)
 
 pub returns-in-Ok-clause-answered : goal.returns-in-Ok-clause-answered
-returns-in-Ok-clause-answered g c honest =
+returns-in-Ok-clause-answered g c given =
     let s = c.args.self.now.state in
     let plan = c.in-Ok.plan in
-    let truly = subst g.P.PageDevice.honest c.start.ensures.devices.0 honest in
+    let truly = c.start.ensures.devices.0.honest given.0 in
     record {
       plan = Ok plan;
-      asked = c.in-Ok.ensures.answered truly;
-      begun = begins_planned plan (λ (p : Plan). c.start.new.self.state ≡ started_with s c.args.txn c.args.number c.args.end (planned_of c.args.op.now.level p)) c.start.result
-          (λ begun. begun ∙ ap (λ (x : State). started_with x c.args.txn c.args.number c.args.end (planned_of c.level.result plan)) (read_state g.P.PageDevice _ _ c.in-Ok.ensures.read truly)
+      asked = c.in-Ok.ensures.answered (truly, read_on plan);
+      begun = begins_planned (g.P.PageDevice.honest c.start.new.self.pages) given.0 plan (λ (p : Plan). c.start.new.self.state ≡ started_with s c.args.txn c.args.number c.args.end (planned_of c.args.op.now.level p)) c.start.result
+          (λ begun. but_same _ _ begun (c.start.ensures.devices.0.images given.0) ∙ ap (λ (x : State). started_with x c.args.txn c.args.number c.args.end (planned_of c.level.result plan)) (read_state g.P.PageDevice _ _ c.in-Ok.ensures.read truly)
           ∙ ap (λ (n : ℕ). started_with s c.args.txn c.args.number c.args.end (planned_of n plan)) c.level.ensures)
-          c.start.ensures.started c.start.ensures.refusal;
+          c.start.ensures.started c.start.ensures.causes;
     }
 
 pub returns-in-Err-clause-answered : goal.returns-in-Err-clause-answered
-returns-in-Err-clause-answered g c honest = record { plan = Err c.in-Err.refusal; asked = c.in-Err.ensures.answered honest; begun = refl }
+returns-in-Err-clause-answered g c given = record { plan = Err c.in-Err.refusal; asked = c.in-Err.ensures.answered (given.0, no_read_as c.in-Err.refusal given.1); begun = refl }

@@ -1,22 +1,19 @@
 use Rattle.std.specs.Bool.{⊤}
 use Rattle.std.proofs.Common.{rules, sym, ◌∙◌, refl, ap, inl}
-use Rattle.rq_model.specs.declared.refusal.Refusal.{Refusal}
 use Rattle.rq_model.specs.History.Call.{Start_receive}
 use Rattle.rq_groups.specs.declared.End.TheVariants.{Receiving}
 use Rattle.rq_level.specs.Ops.Doing.{Receive}
 use Rattle.rq_planner.specs.Asked.Task.{Chain}
 use Rattle.rq_store.specs.Plans.{NoneWaits, WaitsFor}
 use Rattle.rq_sound.specs.Latching.{IsLatched}
-use Rattle.rq_engine.specs.Answers.{Refuses}
-use Rattle.rq_engine.specs.Applied.{OnLatched}
 use Rattle.rq_engine.specs.Earlier.{on}
 use Rattle.rq_engine.specs.Plans.{AreHeldUp}
 use Rattle.rq_engine.proofs.Earlier.{full_on}
 use Rattle.rq_engine.proofs.Free.{left_none}
 use Rattle.rq_engine.proofs.Latches.{any_latches, any_unlatched}
-use Rattle.rq_engine.proofs.Leveled.{refused_for, take_plan}
-use Rattle.rq_engine.proofs.TakeCalls.{any_refused, log_is_full, none_done, take_done, take_memory, take_started}
-use Rattle.rq_engine.proofs.KeptUp.{begun_by, read_state, tried_leaves}
+use Rattle.rq_engine.proofs.Leveled.{latched_for, refused_for, take_plan}
+use Rattle.rq_engine.proofs.TakeCalls.{any_refused, log_is_full, none_done, passes, some, take_done, take_memory, take_started}
+use Rattle.rq_engine.proofs.KeptUp.{begun_by, start_left, tried_leaves}
 use Rattle.rq_engine.proofs.Tested.{take_log_full, take_tested, take_unready}
 use Rattle.rq_engine.proofs.engine.Engine.start_receive.Goals as goal
 
@@ -68,17 +65,17 @@ returns-in-Err-clause-answered g c h earlier long k =
     let w : WaitsFor s c.args.txn c.in-Some.first = c.in-Some.ensures.waits in
     let p = c.in-Err.ensures.taken h.0 in
     let room = full_on earlier c.args.self.now.state long 4 ∙ sym c.if-is_log_full.ensures in
-    rw (read_state g.P.PageDevice _ _ c.in-Err.ensures.tried.read h.0) (refused_for (λ (r : Refusal). Refuses s (Start_receive c.args.txn) r) (AreHeldUp c.args.self.now.state c.args.txn (λ _. ⊤)) c.in-Err.refusal p.causes (p.sound (earlier, long, k))
+    refused_for s _ (Start_receive c.args.txn) (AreHeldUp c.args.self.now.state c.args.txn (λ _. ⊤)) refl c.in_ok-number.ensures.running (some s c.args.txn c.in_ok-number.ensures.passes c.in-Some.first w.0 w.1 w.2) (passes s c.args.txn c.in_ok-number.ensures.passes c.in-Some.first w.0 w.1 w.2 room) c.in-Err.refusal p.causes (p.sound (earlier, long, k))
+    (ap (on earlier) (start_left g.P.PageDevice c.args.self.now _ c.in-Err.refusal c.in-Err.ensures.tried.devices c.in-Err.ensures.tried.left h.0))
     (take_memory s c.args.txn c.in_ok-number.ensures.passes c.in-Some.first w.0 w.1 w.2 room (Start_receive c.args.txn) (inl refl))
-    (λ held. any_refused s c.args.txn c.in_ok-number.ensures.passes c.in-Some.first w.0 w.1 w.2 room (λ e. held e tt)) k)
+    (λ held. any_refused s c.args.txn c.in_ok-number.ensures.passes c.in-Some.first w.0 w.1 w.2 room (λ e. held e tt)) k
 
 pub returns-in-Err-clause-latched : goal.returns-in-Err-clause-latched
 returns-in-Err-clause-latched g c honest earlier long k =
     let s = on earlier c.args.self.now.state in
     let w : WaitsFor s c.args.txn c.in-Some.first = c.in-Some.ensures.waits in
     let p = c.in-Err.ensures.taken honest in
-    refused_for (OnLatched (IsLatched s (Start_receive c.args.txn))) (AreHeldUp c.args.self.now.state c.args.txn (λ _. ⊤)) c.in-Err.refusal p.causes (p.sound (earlier, long, k))
-    tt (λ held. any_latches s k c.args.txn c.in-Some.first w (λ e. held e tt))
+    latched_for (AreHeldUp c.args.self.now.state c.args.txn (λ _. ⊤)) (IsLatched s (Start_receive c.args.txn)) c.in-Err.refusal p.causes (λ held. any_latches s k c.args.txn c.in-Some.first w (λ e. held e tt))
 
 pub returns-in-Ok-clause-begun : goal.returns-in-Ok-clause-begun
 returns-in-Ok-clause-begun g c =
@@ -100,7 +97,7 @@ pub returns-in-Ok-clause-devices : goal.returns-in-Ok-clause-devices
 returns-in-Ok-clause-devices g c = c.in-Ok.ensures.tried.devices
 
 pub returns-in-Err-clause-refused : goal.returns-in-Err-clause-refused
-returns-in-Err-clause-refused g c = tried_leaves c.args.self.now c.start_any_take.new.self (Start_receive c.args.txn) refl (take_tested c.args.self.now c.args.txn c.in_ok-number.ensures.passes (sym c.if-is_log_full.ensures)) c.in-Err.refusal c.in-Err.ensures.tried.causes c.in-Err.ensures.tried.read.lists
+returns-in-Err-clause-refused g c = tried_leaves g.P.PageDevice c.args.self.now c.start_any_take.new.self (Start_receive c.args.txn) refl (take_tested c.args.self.now c.args.txn c.in_ok-number.ensures.passes (sym c.if-is_log_full.ensures)) c.in-Err.refusal c.in-Err.ensures.tried.causes c.in-Err.ensures.tried.left
 
 pub returns-in-Ok-clause-faults : goal.returns-in-Ok-clause-faults
 returns-in-Ok-clause-faults g c = c.in-Ok.ensures.tried.counts

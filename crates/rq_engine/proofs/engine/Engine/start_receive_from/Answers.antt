@@ -1,5 +1,4 @@
 use Rattle.std.proofs.Common.{rules, ◌≡◌, ◌<◌, ◌≤◌, true, sym, ap, ◌∙◌, refl, arith, inr}
-use Rattle.rq_model.specs.declared.refusal.Refusal.{Refusal}
 use Rattle.rq_model.specs.History.Call.{Start_receive_from}
 use Rattle.rq_groups.specs.declared.End.TheVariants.{Receiving}
 use Rattle.rq_level.specs.Ops.Doing.{Receive}
@@ -9,16 +8,14 @@ use Rattle.rq_groups.specs.Ends.{is_free_for}
 use Rattle.rq_groups.specs.Waiting.{waits}
 use Rattle.rq_store.specs.State.{State}
 use Rattle.rq_sound.specs.Latching.{IsLatched}
-use Rattle.rq_engine.specs.Answers.{Refuses}
-use Rattle.rq_engine.specs.Applied.{OnLatched}
 use Rattle.rq_engine.specs.Earlier.{on}
 use Rattle.rq_engine.specs.Sends.{take_latched}
 use Rattle.rq_engine.proofs.Earlier.{full_on}
 use Rattle.rq_engine.proofs.Latches.{from_latched, from_unlatched}
-use Rattle.rq_engine.proofs.Leveled.{refused_for, take_free, take_plan}
+use Rattle.rq_engine.proofs.Leveled.{latched_for, refused_for, take_free, take_plan}
 use Rattle.rq_engine.proofs.Opened.{state_is}
-use Rattle.rq_engine.proofs.TakeCalls.{from_refused, log_is_full, none_from_done, receiver_busy, take_done, take_memory, take_started}
-use Rattle.rq_engine.proofs.KeptUp.{begun_by, read_state, tried_leaves}
+use Rattle.rq_engine.proofs.TakeCalls.{from_refused, log_is_full, none_from_done, one, passes_from, receiver_busy, take_done, take_memory, take_started}
+use Rattle.rq_engine.proofs.KeptUp.{begun_by, start_left, tried_leaves}
 use Rattle.rq_engine.proofs.Tested.{from_busy, from_log_full, from_tested, from_unknown, from_unready}
 use Rattle.rq_engine.proofs.engine.Engine.start_receive_from.Goals as goal
 
@@ -121,23 +118,16 @@ returns-in-Err-clause-answered g c h earlier long k =
     let wait : 1 ≤ waits s.waiting c.args.sender = omega (arith, count, some) in
     let p = c.in-Err.ensures.started h.0 in
     let room = full_on earlier s long 4 ∙ sym c.if-is_log_full.ensures in
-    rw (read_state g.P.PageDevice _ _ c.in-Err.ensures.tried.read h.0) (refused_for (λ (r : Refusal). Refuses (on earlier s) (Start_receive_from c.args.txn c.args.sender) r) (take_latched s c.args.sender ≡ true) c.in-Err.refusal p.causes (p.sound earlier long k wait)
+    refused_for (on earlier s) _ (Start_receive_from c.args.txn c.args.sender) (take_latched s c.args.sender ≡ true) refl c.in_ok-number.ensures.running (one (on earlier s) c.args.txn c.in_ok-number.ensures.passes c.args.sender below free wait) (passes_from (on earlier s) c.args.txn c.in_ok-number.ensures.passes c.args.sender below free wait room) c.in-Err.refusal p.causes (p.sound earlier long k wait)
+    (ap (on earlier) (start_left g.P.PageDevice c.args.self.now _ c.in-Err.refusal c.in-Err.ensures.tried.devices c.in-Err.ensures.tried.left h.0))
     (take_memory (on earlier s) c.args.txn c.in_ok-number.ensures.passes c.args.sender below free wait room (Start_receive_from c.args.txn c.args.sender) (inr refl))
-    (from_refused (on earlier s) c.args.txn c.in_ok-number.ensures.passes c.args.sender below free wait room) k)
+    (from_refused (on earlier s) c.args.txn c.in_ok-number.ensures.passes c.args.sender below free wait room) k
 
 pub returns-in-Err-clause-latched : goal.returns-in-Err-clause-latched
 returns-in-Err-clause-latched g c honest earlier long k =
     let s = c.args.self.now.state in
-    let n : c.senders.result ≡ sender_count s.sizes = c.senders.ensures.number ∙ ap sender_count (c.layout.ensures.sizes ∙ ap (λ (x : State). x.sizes) (state_is c.self.view_is)) in
-    let lt = c.if-sender-senders.false in
-    let below : c.args.sender < sender_count s.sizes = omega (arith, n, lt) in
-    let free : is_free_for c.args.txn c.args.sender s.ends.receiving ≡ true = ap (λ (x : State). is_free_for c.args.txn c.args.sender x.ends.receiving) (sym (state_is c.self.view_is)) ∙ sym c.if-not-may_receive.ensures in
-    let count : waits s.waiting c.args.sender ≡ c.count.result = ap (λ (x : State). waits x.waiting c.args.sender) (sym (state_is c.self.view_is)) ∙ sym c.count.ensures in
-    let some = c.if-count-eq0.false in
-    let wait : 1 ≤ waits s.waiting c.args.sender = omega (arith, count, some) in
     let p = c.in-Err.ensures.started honest in
-    refused_for (OnLatched (IsLatched (on earlier s) (Start_receive_from c.args.txn c.args.sender))) (take_latched s c.args.sender ≡ true) c.in-Err.refusal p.causes (p.sound earlier long k wait)
-    tt (from_latched (on earlier s) k c.args.txn c.args.sender)
+    latched_for (take_latched s c.args.sender ≡ true) (IsLatched (on earlier s) (Start_receive_from c.args.txn c.args.sender)) c.in-Err.refusal p.causes (from_latched (on earlier s) k c.args.txn c.args.sender)
 
 pub returns-in-Ok-clause-begun : goal.returns-in-Ok-clause-begun
 returns-in-Ok-clause-begun g c =
@@ -175,7 +165,7 @@ returns-in-Err-clause-refused g c =
     let lt = c.if-sender-senders.false in
     let below : c.args.sender < sender_count c.args.self.now.state.sizes = omega (arith, n, lt) in
     let free : is_free_for c.args.txn c.args.sender c.args.self.now.state.ends.receiving ≡ true = ap (λ (s : State). is_free_for c.args.txn c.args.sender s.ends.receiving) (sym (state_is c.self.view_is)) ∙ sym c.if-not-may_receive.ensures in
-    tried_leaves c.args.self.now c.start_take.new.self (Start_receive_from c.args.txn c.args.sender) refl (from_tested c.args.self.now c.args.txn c.in_ok-number.ensures.passes c.args.sender below free (sym c.if-is_log_full.ensures)) c.in-Err.refusal c.in-Err.ensures.tried.causes c.in-Err.ensures.tried.read.lists
+    tried_leaves g.P.PageDevice c.args.self.now c.start_take.new.self (Start_receive_from c.args.txn c.args.sender) refl (from_tested c.args.self.now c.args.txn c.in_ok-number.ensures.passes c.args.sender below free (sym c.if-is_log_full.ensures)) c.in-Err.refusal c.in-Err.ensures.tried.causes c.in-Err.ensures.tried.left
 
 pub returns-in-Ok-clause-faults : goal.returns-in-Ok-clause-faults
 returns-in-Ok-clause-faults g c = c.in-Ok.ensures.tried.counts

@@ -1,5 +1,4 @@
 use Rattle.std.proofs.Common.{rules, ◌≡◌, arith, ◌+◌, ap, ◌∙◌, refl, sym, subst}
-use Rattle.rq_model.specs.declared.refusal.Refusal.{Refusal}
 use Rattle.rq_model.specs.History.Call.{Start_send}
 use Rattle.rq_model.specs.Vocabulary.{message_of}
 use Rattle.rq_groups.specs.declared.End.TheVariants.{Sending}
@@ -9,20 +8,18 @@ use Rattle.rq_planner.specs.Asked.Task.{Chain}
 use Rattle.rq_store.specs.State.{State}
 use Rattle.rq_sound.specs.Latching.{IsLatched}
 use Rattle.rq_planner.proofs.Asking.{chained}
-use Rattle.rq_engine.specs.Answers.{Refuses}
-use Rattle.rq_engine.specs.Applied.{OnLatched}
 use Rattle.rq_engine.specs.Earlier.{on}
 use Rattle.rq_engine.specs.Plans.{HasStarted, under_plan}
 use Rattle.rq_engine.specs.Sends.{SendIsLatched, TakesLowest}
 use Rattle.rq_engine.proofs.Earlier.{long_on}
 use Rattle.rq_engine.proofs.Latches.{send_latched, send_unlatched}
-use Rattle.rq_engine.proofs.Leveled.{refused_for, send_plan}
+use Rattle.rq_engine.proofs.Leveled.{latched_for, refused_for, send_plan}
 use Rattle.rq_engine.proofs.Opened.{state_is}
 use Rattle.rq_engine.proofs.Refusals.{no_memory, not_full}
 use Rattle.rq_engine.proofs.SendCalls.{going_started, send_done, send_refused}
 use Rattle.rq_engine.specs.KeptUp.{KeepsDevices, with_images_of}
 use Rattle.rq_engine.specs.Opened.{OpenStore}
-use Rattle.rq_engine.proofs.KeptUp.{begun_by, read_state, tried_leaves}
+use Rattle.rq_engine.proofs.KeptUp.{begun_by, start_left, tried_leaves}
 use Rattle.rq_engine.proofs.Tested.{send_unready}
 use Rattle.rq_engine.proofs.engine.Engine.start_send.Goals as goal
 
@@ -87,18 +84,16 @@ returns-clause-answered g c h earlier long k =
     let few = not_full old 4 c.in_ok-check_send.ensures.log in
     let n = long_on earlier old long in
     let p = c.in-Err.ensures.started h.0 (Chain (Send c.args.sender c.args.tag c.args.body.now)) (chained c.in-Ok.op.level c.in-Ok.op.bytes _ (c.in-Ok.ensures.told c.in_ok-check_send.ensures.short)) in
-    rw (read_state g.P.PageDevice _ _ (c.in-Err.ensures.tried (Chain (Send c.args.sender c.args.tag c.args.body.now)) (chained c.in-Ok.op.level c.in-Ok.op.bytes _ (c.in-Ok.ensures.told c.in_ok-check_send.ensures.short))).read h.0) (refused_for (λ (r : Refusal). Refuses s (Start_send c.args.txn (message_of c.args.sender c.args.tag c.args.body.now)) r) (SendIsLatched s c.args.sender) c.in-Err.refusal p.causes (p.sound earlier long k (c.in_ok-check_send.ensures.room, omega (arith, few, n)))
-    (no_memory s _ c.in_ok-number.ensures.running (λ k. c.in_ok-check_send.ensures.passes earlier long k c.in_ok-number.ensures.passes) (λ k. refl)) (send_refused s c.args.txn c.args.sender c.args.tag c.args.body.now (λ k. c.in_ok-check_send.ensures.passes earlier long k c.in_ok-number.ensures.passes) c.in_ok-check_send.ensures.room) k)
+    let t = c.in-Err.ensures.tried (Chain (Send c.args.sender c.args.tag c.args.body.now)) (chained c.in-Ok.op.level c.in-Ok.op.bytes _ (c.in-Ok.ensures.told c.in_ok-check_send.ensures.short)) in
+    refused_for s _ (Start_send c.args.txn (message_of c.args.sender c.args.tag c.args.body.now)) (SendIsLatched s c.args.sender) refl c.in_ok-number.ensures.running (λ k. refl) (λ k. c.in_ok-check_send.ensures.passes earlier long k c.in_ok-number.ensures.passes) c.in-Err.refusal p.causes (p.sound earlier long k (c.in_ok-check_send.ensures.room, omega (arith, few, n)))
+    (ap (on earlier) (start_left g.P.PageDevice c.args.self.now _ c.in-Err.refusal t.devices t.left h.0))
+    (no_memory s _ c.in_ok-number.ensures.running (λ k. c.in_ok-check_send.ensures.passes earlier long k c.in_ok-number.ensures.passes) (λ k. refl)) (send_refused s c.args.txn c.args.sender c.args.tag c.args.body.now (λ k. c.in_ok-check_send.ensures.passes earlier long k c.in_ok-number.ensures.passes) c.in_ok-check_send.ensures.room) k
 
 pub returns-clause-latched : goal.returns-clause-latched
 returns-clause-latched g c honest earlier long k =
-    let old = c.args.self.now.state in
-    let s = on earlier old in
-    let few = not_full old 4 c.in_ok-check_send.ensures.log in
-    let n = long_on earlier old long in
+    let s = on earlier c.args.self.now.state in
     let p = c.in-Err.ensures.started honest (Chain (Send c.args.sender c.args.tag c.args.body.now)) (chained c.in-Ok.op.level c.in-Ok.op.bytes _ (c.in-Ok.ensures.told c.in_ok-check_send.ensures.short)) in
-    refused_for (OnLatched (IsLatched s (Start_send c.args.txn (message_of c.args.sender c.args.tag c.args.body.now)))) (SendIsLatched s c.args.sender) c.in-Err.refusal p.causes (p.sound earlier long k (c.in_ok-check_send.ensures.room, omega (arith, few, n)))
-    tt (send_latched s k c.args.txn c.args.sender c.args.tag c.args.body.now)
+    latched_for (SendIsLatched s c.args.sender) (IsLatched s (Start_send c.args.txn (message_of c.args.sender c.args.tag c.args.body.now))) c.in-Err.refusal p.causes (send_latched s k c.args.txn c.args.sender c.args.tag c.args.body.now)
 
 pub overflow_add-self : goal.overflow_add-self
 overflow_add-self g c =
@@ -125,7 +120,7 @@ returns-in-Ok-start_planned-clause-devices g c =
 pub returns-clause-refused : goal.returns-clause-refused
 returns-clause-refused g c =
     let p = c.in-Err.ensures.tried (Chain (Send c.args.sender c.args.tag c.args.body.now)) (chained c.in-Ok.op.level c.in-Ok.op.bytes _ (c.in-Ok.ensures.told c.in_ok-check_send.ensures.short)) in
-    tried_leaves c.args.self.now c.start_planned.new.self (Start_send c.args.txn (message_of c.args.sender c.args.tag c.args.body.now)) refl (c.in_ok-check_send.ensures.tested c.in_ok-number.ensures.passes) c.in-Err.refusal p.causes p.read.lists
+    tried_leaves g.P.PageDevice c.args.self.now c.start_planned.new.self (Start_send c.args.txn (message_of c.args.sender c.args.tag c.args.body.now)) refl (c.in_ok-check_send.ensures.tested c.in_ok-number.ensures.passes) c.in-Err.refusal p.causes p.left
 
 pub returns-in-Ok-start_planned-clause-faults : goal.returns-in-Ok-start_planned-clause-faults
 returns-in-Ok-start_planned-clause-faults g c = ap (λ (o : OpenStore _ _). g.P.PageDevice.faults o.pages) c.self-2.view_is ∙ (c.in-Ok-start_planned.ensures.tried (Chain (Send c.args.sender c.args.tag c.args.body.now)) (chained c.in-Ok.op.level c.in-Ok.op.bytes _ (c.in-Ok.ensures.told c.in_ok-check_send.ensures.short))).counts

@@ -11,6 +11,7 @@ invariant_of-self-in-Err g c =
       kept = kept_device _ _ _ _ _ _ c.self.inside.log.forced true _ c.self.invariant.kept refl refl (λ e. absurd (true≢false e));
       durable = c.self.invariant.durable;
       cells = c.self.invariant.cells;
+      frames_are = c.self.invariant.frames_are;
     })
 
 pub returns-in-Ok-clause-kept : goal.returns-in-Ok-clause-kept

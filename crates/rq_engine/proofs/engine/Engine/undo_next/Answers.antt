@@ -1,5 +1,4 @@
 use Rattle.std.proofs.Common.{rules, ◌≡◌, Option, Some, false, refl, sym, ap, ◌∙◌, subst}
-use Rattle.rq_model.specs.declared.refusal.Refusal.{Refusal}
 use Rattle.rq_model.specs.History.Call.{Undo_next}
 use Rattle.rq_model.specs.Tests.{log_full, undo_cost}
 use Rattle.rq_txn.specs.declared.Aim.TheVariants.{Undoing}
@@ -8,16 +7,14 @@ use Rattle.rq_store.specs.State.{ledger_of, op_done}
 use Rattle.rq_sound.specs.Latching.{IsLatched}
 use Rattle.rq_planner.proofs.Options.{some_told}
 use Rattle.rq_engine.specs.Aborts.{IsTurnedBack, UndoIsLatched}
-use Rattle.rq_engine.specs.Answers.{Refuses}
-use Rattle.rq_engine.specs.Applied.{OnLatched}
 use Rattle.rq_engine.specs.Earlier.{on}
 use Rattle.rq_engine.specs.Invariant.{IsDoneConsistent, IsLogged, end_of}
-use Rattle.rq_engine.proofs.AbortCalls.{cost_found, is_newest, is_newest_of, may_be_undone, none_done, turned_newest, undo_done, undo_full, undo_memory, undo_refused}
+use Rattle.rq_engine.proofs.AbortCalls.{cost_found, is_newest, is_newest_of, may_be_undone, none_done, some_left, turned_newest, undo_done, undo_full, undo_memory, undo_passes, undo_refused}
 use Rattle.rq_engine.proofs.Earlier.{full_on}
 use Rattle.rq_engine.proofs.Latches.{undo_latched, undo_unlatched}
-use Rattle.rq_engine.proofs.Leveled.{refused_for}
+use Rattle.rq_engine.proofs.Leveled.{latched_for, refused_for}
 use Rattle.rq_engine.proofs.Opened.{state_is}
-use Rattle.rq_engine.proofs.KeptUp.{read_state, tried_leaves}
+use Rattle.rq_engine.proofs.KeptUp.{start_left, tried_leaves}
 use Rattle.rq_engine.proofs.Tested.{undo_log_full, undo_tested, undo_unready}
 use Rattle.rq_engine.proofs.engine.Engine.undo_next.Goals as goal
 
@@ -89,9 +86,10 @@ returns-in-Err-clause-answered g c h earlier long k =
     let back : IsTurnedBack s c.args.txn c.in_ok-number.number (Some f) = subst (λ (o : Option Finished). IsTurnedBack s c.args.txn c.in_ok-number.number o) (is_newest_of c.args.self.now.state _ c.args.txn _ _ (state_is c.self.view_is) c.next_undo.ensures c.in-Some.is) c.in_ok-number.ensures.ready in
     let room : log_full (ledger_of s) (undo_cost (Some (op_done f))) ≡ false = full_on earlier c.args.self.now.state long _ ∙ ap (log_full (ledger_of c.args.self.now.state)) (sym c.undo_records.ensures) ∙ sym c.if-is_log_full.ensures in
     let p = c.in-Err.ensures.started h.0 in
-    rw (read_state g.P.PageDevice _ _ c.in-Err.ensures.tried.read h.0) (refused_for (λ (r : Refusal). Refuses s (Undo_next c.args.txn) r) (UndoIsLatched s f.deed) c.in-Err.refusal p.causes (p.sound earlier long k (is_newest s c.args.txn c.in_ok-number.number f c.in_ok-number.ensures.passes back))
+    refused_for s _ (Undo_next c.args.txn) (UndoIsLatched s f.deed) refl c.in_ok-number.ensures.running (λ k. some_left s c.args.txn c.in_ok-number.number f c.in_ok-number.ensures.passes back) (λ k. undo_passes s c.args.txn c.in_ok-number.number f c.in_ok-number.ensures.passes back room) c.in-Err.refusal p.causes (p.sound earlier long k (is_newest s c.args.txn c.in_ok-number.number f c.in_ok-number.ensures.passes back))
+    (ap (on earlier) (start_left g.P.PageDevice c.args.self.now _ c.in-Err.refusal c.in-Err.ensures.tried.devices c.in-Err.ensures.tried.left h.0))
     (undo_memory s c.args.txn c.in_ok-number.number f c.in_ok-number.ensures.passes back c.in_ok-number.ensures.running room)
-    (undo_refused s c.args.txn c.in_ok-number.number f c.in_ok-number.ensures.passes back (may_be_undone s c.args.txn c.in_ok-number.number f c.in_ok-number.ensures.passes back) room) k)
+    (undo_refused s c.args.txn c.in_ok-number.number f c.in_ok-number.ensures.passes back (may_be_undone s c.args.txn c.in_ok-number.number f c.in_ok-number.ensures.passes back) room) k
 
 pub returns-in-Err-clause-latched : goal.returns-in-Err-clause-latched
 returns-in-Err-clause-latched g c honest earlier long k =
@@ -99,8 +97,7 @@ returns-in-Err-clause-latched g c honest earlier long k =
     let f = c.in-Some.done in
     let back : IsTurnedBack s c.args.txn c.in_ok-number.number (Some f) = subst (λ (o : Option Finished). IsTurnedBack s c.args.txn c.in_ok-number.number o) (is_newest_of c.args.self.now.state _ c.args.txn _ _ (state_is c.self.view_is) c.next_undo.ensures c.in-Some.is) c.in_ok-number.ensures.ready in
     let p = c.in-Err.ensures.started honest in
-    refused_for (OnLatched (IsLatched s (Undo_next c.args.txn))) (UndoIsLatched s f.deed) c.in-Err.refusal p.causes (p.sound earlier long k (is_newest s c.args.txn c.in_ok-number.number f c.in_ok-number.ensures.passes back))
-    tt (undo_latched s k c.args.txn f (turned_newest s c.args.txn c.in_ok-number.number (Some f) back))
+    latched_for (UndoIsLatched s f.deed) (IsLatched s (Undo_next c.args.txn)) c.in-Err.refusal p.causes (undo_latched s k c.args.txn f (turned_newest s c.args.txn c.in_ok-number.number (Some f) back))
 
 pub returns-in-Ok-clause-begun : goal.returns-in-Ok-clause-begun
 returns-in-Ok-clause-begun g c =
@@ -135,7 +132,7 @@ returns-in-Err-clause-refused g c =
     let f = c.in-Some.done in
     let back : IsTurnedBack s c.args.txn c.in_ok-number.number (Some f) = subst (λ (o : Option Finished). IsTurnedBack s c.args.txn c.in_ok-number.number o) (is_newest_of c.args.self.now.state _ c.args.txn _ _ (state_is c.self.view_is) c.next_undo.ensures c.in-Some.is) c.in_ok-number.ensures.ready in
     let tests = undo_tested c.args.self.now c.args.txn c.in_ok-number.ensures.passes (ap (λ n. log_full (ledger_of s) n) (cost_found s c.args.txn c.in_ok-number.number f c.in_ok-number.ensures.passes back ∙ sym c.undo_records.ensures) ∙ sym c.if-is_log_full.ensures) in
-    tried_leaves c.args.self.now c.start_inverse.new.self (Undo_next c.args.txn) refl tests c.in-Err.refusal c.in-Err.ensures.tried.causes c.in-Err.ensures.tried.read.lists
+    tried_leaves g.P.PageDevice c.args.self.now c.start_inverse.new.self (Undo_next c.args.txn) refl tests c.in-Err.refusal c.in-Err.ensures.tried.causes c.in-Err.ensures.tried.left
 
 pub returns-in-Ok-clause-faults : goal.returns-in-Ok-clause-faults
 returns-in-Ok-clause-faults g c = c.in-Ok.ensures.tried.counts

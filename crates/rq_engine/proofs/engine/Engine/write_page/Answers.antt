@@ -16,6 +16,7 @@ invariant_of-self-in-Err-DiskWrite g c =
       kept = rw (c.in-Err-DiskWrite.ensures.sizes, c.in-Err-DiskWrite.ensures.images) (kept_device _ _ _ _ _ _ c.self.inside.log.forced true _ c.self.invariant.kept refl refl (λ e. absurd (true≢false e)));
       durable = c.self.invariant.durable;
       cells = rw (c.in-Err-DiskWrite.ensures.sizes, c.in-Err-DiskWrite.ensures.images) c.self.invariant.cells;
+      frames_are = rw (c.in-Err-DiskWrite.ensures.frames.0) c.self.invariant.frames_are;
     }
 
 pub returns-in-Err-DiskWrite-clause-answered : goal.returns-in-Err-DiskWrite-clause-answered
