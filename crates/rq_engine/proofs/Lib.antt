@@ -17,6 +17,7 @@ pub mod Leveled
 pub mod Calls
 pub mod Frames
 pub mod SendCalls
+pub mod Wanting
 pub mod TakeCalls
 pub mod CloseCalls
 pub mod MarkCalls

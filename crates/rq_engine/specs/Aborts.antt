@@ -86,6 +86,10 @@ pub record IsLowestUndo (s : State) (u : Under) (f : Finished) : Type 0 where
   pub planned : IsUndoPlan s.sizes (slots_in s.sizes s.images) u f
   pub lowest : UndoTakesLowest s f.deed u.writes
 
+-- it takes back what the aborting transaction did last
+abbrev pub IsUndoOf : State → Txn → Under → Type 0
+IsUndoOf s t u = (f : Finished) × ((n : ℕ) × IsTurnedBack s t n (Some f)) × IsLowestUndo s u f
+
 -- or nothing is left to undo
 abbrev pub UndoSays : State → Txn → Option Sub → State → Type 0
 UndoSays old t (Some sub) new = (sub.txn ≡ t) × IsUndoStarted old sub (IsLowestUndo old) new

@@ -25,7 +25,7 @@ use Rattle.rq_engine.specs.declared.event.Progress.{Progress}
 use Rattle.rq_engine.specs.declared.event.Progress.TheVariants as progress
 use Rattle.rq_engine.specs.declared.event.Reply.{Reply}
 use Rattle.rq_engine.specs.declared.event.Reply.TheVariants as reply
-use Rattle.rq_engine.specs.Aborts.{IsUndoBegun, UndoSays}
+use Rattle.rq_engine.specs.Aborts.{IsUndoBegun, IsUndoOf, UndoSays}
 use Rattle.rq_engine.specs.Answers.{IsUnderWay}
 use Rattle.rq_engine.specs.Lists.{IsCloseBegun, IsMarkBegun, IsSendBegun, IsTakeBegun, ListsSay, TakeFromSays, TakeSays}
 use Rattle.rq_engine.specs.Sends.{TakesLowest}
@@ -36,6 +36,12 @@ use Rattle.rq_engine.specs.Migration.{HasMigrated, IsCutOrGrown, KeepsOrGrows, M
 use Rattle.rq_engine.specs.Crash.{AreFit, RunsThroughCuts}
 use Rattle.rq_engine.specs.Devices.{Path}
 use Rattle.rq_engine.specs.Says.{RefusedForCause, LogSays, PagesSay, WritesSay, call_of, gave, written_by}
+use Rattle.rq_level.specs.declared.writes.SlotWrite.{SlotWrite}
+use Rattle.rq_store.specs.Plans.{IsSendPlan, IsTakePlan, WaitsFor}
+use Rattle.rq_sound.specs.Groups.{slots_now}
+use Rattle.rq_engine.specs.Closes.{IsClosePlan}
+use Rattle.rq_engine.specs.Marks.{IsMarkPlan}
+use Rattle.rq_engine.specs.Fixing.{AreWritesOf, HadFrames, HasNoFrames, OnPoolFull}
 use Rattle.rq_model.specs.Causes.{reads_pages, starts_one, writes_out}
 
 -- what a device that fails in a write leaves of the store: it is stopped; no other call meets such a failure
@@ -157,6 +163,31 @@ LatchedSay honest s (event.StartMark txn client tag) r = LatchedReply s (Start_m
 LatchedSay honest s (event.UndoNext txn) r = honest → LatchedReply s (Undo_next txn) r
 LatchedSay honest s _ r = Unit {0}
 
+-- what a reply tells of frames
+abbrev pub FramesReply : {P L : Type 0} → (MayBePlanned : List SlotWrite → Type 0) → OpenStore P L → Reply → State → Type 0
+FramesReply MayBePlanned old (reply.Started sub) new = HadFrames old sub new
+FramesReply MayBePlanned old (reply.Refused r) new = OnPoolFull (HasNoFrames MayBePlanned old) r
+FramesReply MayBePlanned old _ new = Unit {0}
+
+-- A start is refused for frames only where those for the pages of some plan of it cannot be had. So they could be had for what is
+-- started. Over an honest device the plan is one from the slots as they are, on pages that nobody has latched.
+abbrev pub FramesSay : {P L : Type 0} → (honest : Type 0) → OpenStore P L → Event → Reply → State → Type 0
+FramesSay honest old (event.StartSend txn sender tag body) r new =
+    FramesReply (λ ws. honest → AreWritesOf old.state
+    (λ u. IsSendPlan old.state.sizes (slots_now old.state) u sender tag body.items) ws) old r new
+FramesSay honest old (event.StartReceive txn) r new =
+    FramesReply (λ ws. honest → AreWritesOf old.state
+    (λ u. (sender : ℕ) × WaitsFor old.state txn sender × IsTakePlan old.state.sizes (slots_now old.state) u sender) ws) old r new
+FramesSay honest old (event.StartReceiveFrom txn sender) r new =
+    FramesReply (λ ws. honest → AreWritesOf old.state (λ u. IsTakePlan old.state.sizes (slots_now old.state) u sender) ws) old r new
+FramesSay honest old (event.StartClose txn sender) r new =
+    FramesReply (λ ws. honest → AreWritesOf old.state (λ u. IsClosePlan old.state.sizes (slots_now old.state) u sender) ws) old r new
+FramesSay honest old (event.StartMark txn client tag) r new =
+    FramesReply (λ ws. honest → AreWritesOf old.state (λ u. IsMarkPlan old.state.sizes (slots_now old.state) u client tag) ws) old r new
+FramesSay honest old (event.UndoNext txn) r new =
+    FramesReply (λ ws. honest → AreWritesOf old.state (IsUndoOf old.state txn) ws) old r new
+FramesSay honest old _ r new = Unit {0}
+
 -- a checkpoint was made, or why not; so of a migration; any other call is none
 abbrev pub CheckpointReply : {P L : Type 0} → page_device.Ghosts P → log_device.Ghosts L → OpenStore P L → Reply
     → OpenStore P L → Type 0
@@ -223,6 +254,7 @@ pub record Applied {P L : Type 0} (p : page_device.Ghosts P) (l : log_device.Gho
   pub latched : (earlier : List Record) → IsEarlier earlier old.state → IsSound (on earlier old.state)
       → LatchedSay (p.honest new.pages) (on earlier old.state) e r
   -- of every store
+  pub frames : FramesSay (p.honest new.pages) old e r new.state
   pub sizes : new.state.sizes ≡ old.state.sizes
   -- of the records of which nothing is known nothing is known after it
   pub unknown : unknown new.state.records ≡ unknown old.state.records

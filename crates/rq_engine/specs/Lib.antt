@@ -16,6 +16,7 @@ pub mod Aborts
 pub mod Crash
 pub mod Checkpoint
 pub mod Migration
+pub mod Fixing
 pub mod Applied
 pub mod Devices
 pub mod Lists

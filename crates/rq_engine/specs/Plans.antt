@@ -204,7 +204,15 @@ pub record IsStartOf {X : Type 0} (s : State) (asked : Asked) (HasBegun : Type 0
   pub sound : (e : List Record) → IsEarlier e s → IsSound (on e s) → MayBeAsked (on e s) asked
       → IfErr answer (λ r. TellsDamage r → ⊥)
 
+-- the writes of a plan of the task
+abbrev pub AreWritesFor : State → Task → List SlotWrite → Type 0
+AreWritesFor s task ws = (plan : Planned) × IsDeedPlan s task plan × (plan.writes ≡ ws)
+
 -- ---- receives from whichever sender
+
+-- the writes of a plan of a receive of a message that waits
+abbrev pub AreTakeWrites : State → Txn → List SlotWrite → Type 0
+AreTakeWrites s t ws = (sender : ℕ) × WaitsFor s t sender × AreWritesFor s (Chain (Receive sender)) ws
 
 -- a receive of a message that waits may start: its transaction has nothing under way, and the log has room
 pub record MayTake (s : State) (t : Txn) (n : ℕ) : Type 0 where

@@ -11,7 +11,7 @@ ghost use Rattle.rq_engine.specs.Earlier.{on, IsEarlier};
 ghost use Rattle.rq_model.specs.declared.record.Record.{Record};
 ghost use Rattle.rq_model.specs.Causes.{reads_pages};
 ghost use Rattle.rq_engine.specs.KeptUp.{AnswerCounts, AreButRead, IsShown, KeepsUp, OnRead, RefusedButRead};
-ghost use Rattle.rq_engine.specs.Applied.{Applied, BegunSay, ChangesSay, CheckpointSays, KeepsOrBased, LatchedSay, MayLeave, RefusalLeaves, ReplacingSays, StartSays};
+ghost use Rattle.rq_engine.specs.Applied.{Applied, BegunSay, ChangesSay, CheckpointSays, FramesSay, KeepsOrBased, LatchedSay, MayLeave, RefusalLeaves, ReplacingSays, StartSays};
 ghost use Rattle.rq_engine.specs.Lists.{ListsSay};
 ghost use Rattle.rq_engine.specs.Opened.{AreHonest};
 ghost use Rattle.rq_engine.specs.Says.{RefusedForCause, IsContent, LogSays, PagesSay, WritesSay, begun_reply, call_of, gave, undo_reply};
@@ -105,6 +105,7 @@ impl<P: PageDevice, L: LogDevice, B: Level> Engine<P, L, B> {
         ensures starts { P.honest self.new.pages → StartSays self.old event.now result self.new }
         ensures latched { (e : List Record) → IsEarlier e self.old.state → IsSound (on e self.old.state)
             → LatchedSay (P.honest self.new.pages) (on e self.old.state) event.now result }
+        ensures frames { FramesSay (P.honest self.new.pages) self.old event.now result self.new.state }
         // Devices and what a crash at any moment leaves.
         ensures honest { AreHonest P.PageDevice L.LogDevice self.new → AreHonest P.PageDevice L.LogDevice self.old }
         ensures replacing { ReplacingSays self.old event.now result self.new }

@@ -7,14 +7,16 @@ ghost use Rattle.rq_groups.specs.Waiting.{waits};
 ghost use Rattle.rq_sound.specs.Sound.{IsSound};
 ghost use Rattle.rq_engine.specs.Earlier.{on, IsEarlier};
 ghost use Rattle.rq_model.specs.declared.record.Record.{Record};
-ghost use Rattle.rq_store.specs.Plans.{NoneWaits, WaitsFor};
+ghost use Rattle.rq_store.specs.Plans.{IsTakePlan, NoneWaits, WaitsFor};
 ghost use Rattle.rq_engine.specs.Applied.{TakesUnlatched};
 ghost use Rattle.rq_engine.specs.KeptUp.{AnswerCounts, HasTried, KeepsDevices, RefusedButRead};
 ghost use Rattle.rq_engine.specs.Answers.{AnswersLegally};
 ghost use Rattle.rq_engine.specs.Lists.{IsTakeBegun, TakeSays, TakeFromSays};
 ghost use Rattle.rq_engine.specs.Receives.{started_of};
 ghost use Rattle.rq_planner.specs.Asked.{Chain, Do};
-ghost use Rattle.rq_engine.specs.Plans.{HasBegun, HasBegunTake, HasStarted, IsStartOf, IsTakeOf, MayTake};
+ghost use Rattle.rq_engine.specs.Plans.{AreTakeWrites, AreWritesFor, HasBegun, HasBegunTake, HasStarted, IsStartOf, IsTakeOf, MayTake};
+ghost use Rattle.rq_sound.specs.Groups.{slots_now};
+ghost use Rattle.rq_engine.specs.Fixing.{AreWritesOf, StartHasFrames, TakeHasFrames};
 
 use crate::engine::Engine;
 use crate::starts::is_latched;
@@ -44,6 +46,9 @@ impl<P: PageDevice, L: LogDevice, B: Level> Engine<P, L, B> {
             ((self.new ≡ self.old) × TakeSays self.old.state txn None self.new.state)) }
         ensures latched { P.honest self.new.pages → (e : List Record) → IsEarlier e self.old.state → IsSound (on e self.old.state)
             → TakesUnlatched (on e self.old.state) (Start_receive txn) result }
+        ensures frames { TakeHasFrames (λ ws. P.honest self.new.pages → AreWritesOf self.old.state (λ u. (sender : ℕ)
+            × WaitsFor self.old.state txn sender × IsTakePlan self.old.state.sizes (slots_now self.old.state) u sender) ws)
+            self.old result self.new.state }
         ensures devices { KeepsDevices P.PageDevice self.old self.new }
         ensures faults { AnswerCounts P.PageDevice result self.old self.new }
         ensures refused { IfErr result (λ r. RefusedButRead (Start_receive txn) self.old r self.new) }
@@ -81,6 +86,8 @@ impl<P: PageDevice, L: LogDevice, B: Level> Engine<P, L, B> {
             ((self.new ≡ self.old) × TakeFromSays self.old.state txn sender None self.new.state)) }
         ensures latched { P.honest self.new.pages → (e : List Record) → IsEarlier e self.old.state → IsSound (on e self.old.state)
             → TakesUnlatched (on e self.old.state) (Start_receive_from txn sender) result }
+        ensures frames { TakeHasFrames (λ ws. P.honest self.new.pages → AreWritesOf self.old.state
+            (λ u. IsTakePlan self.old.state.sizes (slots_now self.old.state) u sender) ws) self.old result self.new.state }
         ensures devices { KeepsDevices P.PageDevice self.old self.new }
         ensures faults { AnswerCounts P.PageDevice result self.old self.new }
         ensures refused { IfErr result (λ r. RefusedButRead (Start_receive_from txn sender) self.old r self.new) }
@@ -112,6 +119,9 @@ impl<P: PageDevice, L: LogDevice, B: Level> Engine<P, L, B> {
         // Whatever the device gave of pages that are read.
         ensures tried { HasTried P.PageDevice self.old
             (HasBegun self.old.state txn number (End.Receiving sender) (Chain (Receive sender))) result self.new }
+        ensures frames { StartHasFrames
+            (λ ws. P.honest self.new.pages → AreWritesFor self.old.state (Chain (Receive sender)) ws) self.old
+            (record { txn = txn; number = number }) result self.new.state }
         ensures plain { IfErr result (λ r. r ≢ Refusal.Failed) }
         // Of an honest one.
         ensures started { P.honest self.new.pages → IsStartOf self.old.state (Do (Chain (Receive sender)))
@@ -149,6 +159,8 @@ impl<P: PageDevice, L: LogDevice, B: Level> Engine<P, L, B> {
         requires may { MayTake self.old.state txn number }
         requires waits { WaitsFor self.old.state txn first }
         ensures tried { HasTried P.PageDevice self.old (HasBegunTake self.old.state txn number) result self.new }
+        ensures frames { StartHasFrames (λ ws. P.honest self.new.pages → AreTakeWrites self.old.state txn ws) self.old
+            (record { txn = txn; number = number }) result self.new.state }
         ensures plain { IfErr result (λ r. r ≢ Refusal.Failed) }
         ensures taken { P.honest self.new.pages → IsTakeOf self.old.state txn number (λ _. ⊤) result self.new.state }
     {
@@ -167,6 +179,8 @@ impl<P: PageDevice, L: LogDevice, B: Level> Engine<P, L, B> {
     fn start_free_take(&mut self, txn: Txn, number: u64) -> Result<(), Refusal>
         requires { MayTake self.old.state txn number }
         ensures tried { HasTried P.PageDevice self.old (HasBegunTake self.old.state txn number) result self.new }
+        ensures frames { StartHasFrames (λ ws. P.honest self.new.pages → AreTakeWrites self.old.state txn ws) self.old
+            (record { txn = txn; number = number }) result self.new.state }
         ensures plain { IfErr result (λ r. r ≢ Refusal.Failed) }
         ensures taken { P.honest self.new.pages → IsTakeOf self.old.state txn number
             (λ g. is_held g self.old.state.ends.receiving ≡ false) result self.new.state }
@@ -186,6 +200,8 @@ impl<P: PageDevice, L: LogDevice, B: Level> Engine<P, L, B> {
     fn start_own_take(&mut self, txn: Txn, number: u64) -> Result<(), Refusal>
         requires { MayTake self.old.state txn number }
         ensures tried { HasTried P.PageDevice self.old (HasBegunTake self.old.state txn number) result self.new }
+        ensures frames { StartHasFrames (λ ws. P.honest self.new.pages → AreTakeWrites self.old.state txn ws) self.old
+            (record { txn = txn; number = number }) result self.new.state }
         ensures plain { IfErr result (λ r. r ≢ Refusal.Failed) }
         ensures taken { P.honest self.new.pages → IsTakeOf self.old.state txn number
             (λ g. has_held txn g self.old.state.ends.receiving ≡ true) result self.new.state }
@@ -205,6 +221,8 @@ impl<P: PageDevice, L: LogDevice, B: Level> Engine<P, L, B> {
     fn start_waiting(&mut self, txn: Txn, number: u64, sender: u32) -> Result<(), Refusal>
         requires { MayTake self.old.state txn number }
         ensures tried { HasTried P.PageDevice self.old (HasBegunTake self.old.state txn number) result self.new }
+        ensures frames { StartHasFrames (λ ws. P.honest self.new.pages → AreTakeWrites self.old.state txn ws) self.old
+            (record { txn = txn; number = number }) result self.new.state }
         ensures plain { IfErr result (λ r. r ≢ Refusal.Failed) }
         ensures taken { P.honest self.new.pages → IsTakeOf self.old.state txn number (λ g. g ≡ sender) result self.new.state }
     {

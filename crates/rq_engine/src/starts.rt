@@ -13,8 +13,9 @@ ghost use Rattle.rq_engine.specs.Frames.{IsForFrames, NotBegun, pages_of};
 ghost use Rattle.rq_engine.specs.Answers.{HasNothingUnderWay};
 ghost use Rattle.rq_engine.specs.Invariant.{end_bytes};
 ghost use Rattle.rq_engine.specs.KeptUp.{AnswerCounts, AreButRead, HasReadPages, HasTried, IsGivenBy, IsLeftBy, KeepsDevices, failed_by};
-ghost use Rattle.rq_engine.specs.Plans.{BeginsAsPlanned, HasBegun, HasStarted, IsByLatches, IsOwnPlan, IsStartOf, IsToStart, LevelsAnswer, is_latched, known_part, planned_of, started_with, to_job};
+ghost use Rattle.rq_engine.specs.Plans.{AreWritesFor, BeginsAsPlanned, HasBegun, HasStarted, IsByLatches, IsOwnPlan, IsStartOf, IsToStart, LevelsAnswer, is_latched, known_part, planned_of, started_with, to_job};
 ghost use Rattle.rq_engine.specs.Sends.{FitsUnder, HasRoom};
+ghost use Rattle.rq_engine.specs.Fixing.{StartHasFrames};
 
 use crate::engine::Engine;
 use crate::page_numbers::PageNumbers;
@@ -44,6 +45,9 @@ impl<P: PageDevice, L: LogDevice, B: Level> Engine<P, L, B> {
         ensures tried { (d : Task) → task_by op.now.level op.now.bytes ≡ Some d → HasTried P.PageDevice self.old
             (HasBegun self.old.state txn number end d) result self.new }
         ensures latched { (d : Task) → task_by op.now.level op.now.bytes ≡ Some d → IsByLatches self.old.state d result }
+        ensures frames { (d : Task) → task_by op.now.level op.now.bytes ≡ Some d → StartHasFrames
+            (λ ws. P.honest self.new.pages → AreWritesFor self.old.state d ws) self.old (record { txn = txn; number = number })
+            result self.new.state }
         ensures plain { IfErr result (λ r. r ≢ Refusal.Failed) }
         // Of an honest one.
         ensures started { P.honest self.new.pages → (d : Task) → task_by op.now.level op.now.bytes ≡ Some d

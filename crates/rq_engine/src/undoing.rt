@@ -14,7 +14,7 @@ ghost use Rattle.rq_engine.specs.Answers.{AnswersLegally};
 ghost use Rattle.rq_engine.specs.Applied.{TakesUnlatched};
 ghost use Rattle.rq_engine.specs.Invariant.{IsDoneConsistent, IsLogged, end_of};
 ghost use Rattle.rq_engine.specs.Receives.{undoing_of};
-ghost use Rattle.rq_engine.specs.Aborts.{IsTurnedBack, IsUndoBegun, UndoSays};
+ghost use Rattle.rq_engine.specs.Aborts.{IsTurnedBack, IsUndoBegun, IsUndoOf, UndoSays};
 ghost use Rattle.rq_store.specs.State.{ledger_of, op_done};
 ghost use Rattle.rq_model.specs.Vocabulary.{is_some};
 ghost use Rattle.rq_planner.specs.Answered.{IsPlanned};
@@ -22,7 +22,8 @@ ghost use Rattle.rq_planner.specs.Asked.{Undo};
 ghost use Rattle.rq_planner.specs.Lawful.{IsLawfulInverse, MayRefuse};
 ghost use Rattle.rq_model.specs.declared.record.Deed.{Deed};
 ghost use Rattle.rq_views.specs.InStore.{IsDeedOf};
-ghost use Rattle.rq_engine.specs.Plans.{BeginsAsPlanned, HasBegunBack, HasTurnedBack, IsStartOf, LevelsAnswer, known_part, to_undo, turned_back};
+ghost use Rattle.rq_engine.specs.Plans.{BeginsAsPlanned, HasBegunBack, HasTurnedBack, IsInversePlan, IsStartOf, LevelsAnswer, known_part, to_undo, turned_back};
+ghost use Rattle.rq_engine.specs.Fixing.{AreWritesOf, StartHasFrames, TakeHasFrames};
 
 use crate::engine::Engine;
 use rq_disk::{LogDevice, PageDevice};
@@ -60,6 +61,8 @@ impl<P: PageDevice, L: LogDevice, B: Level> Engine<P, L, B> {
             ((self.new ≡ self.old) × UndoSays self.old.state txn None self.new.state)) }
         ensures latched { P.honest self.new.pages → (e : List AnyRecord) → IsEarlier e self.old.state → IsSound (on e self.old.state)
             → TakesUnlatched (on e self.old.state) (Undo_next txn) result }
+        ensures frames { TakeHasFrames (λ ws. P.honest self.new.pages → AreWritesOf self.old.state (IsUndoOf self.old.state txn) ws)
+            self.old result self.new.state }
         ensures devices { KeepsDevices P.PageDevice self.old self.new }
         ensures faults { AnswerCounts P.PageDevice result self.old self.new }
         ensures refused { IfErr result (λ r. RefusedButRead (Undo_next txn) self.old r self.new) }
@@ -87,6 +90,8 @@ impl<P: PageDevice, L: LogDevice, B: Level> Engine<P, L, B> {
         requires log { log_full (ledger_of self.old.state) (undo_cost (Some (op_done done.now))) ≡ false }
         // Whatever the device gave of pages that are read.
         ensures tried { HasTried P.PageDevice self.old (HasBegunBack self.old.state txn number done.now) result self.new }
+        ensures frames { StartHasFrames (λ ws. P.honest self.new.pages → IsInversePlan self.old.state done.now.deed ws) self.old
+            (record { txn = txn; number = number }) result self.new.state }
         ensures plain { IfErr result (λ r. r ≢ Refusal.Failed) }
         // Of an honest one.
         ensures started { P.honest self.new.pages → IsStartOf self.old.state (Undo done.now.deed)

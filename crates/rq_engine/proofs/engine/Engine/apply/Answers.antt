@@ -10,6 +10,7 @@ returns-clause-applied g c =
       steps = told.answered;
       cause = told.cause;
       latched = told.latched;
+      frames = told.frames;
       sizes = told.sizes;
       unknown = unknown_stay c.args.self.now c.call.new.self c.args.event.now c.call.result _ told.lists told.begun told.refused;
       failed = told.failed;

@@ -8,6 +8,7 @@ use Rattle.rq_model.specs.History.Call.{Start_send}
 use Rattle.rq_model.specs.Vocabulary.{message_of}
 use Rattle.rq_engine.proofs.Leaving.{plain_leaves, begun_leaves, take_begins, take_counts, undo_begins, undo_counts, undo_leaves}
 use Rattle.rq_engine.proofs.Listing.{begun_answered, take_lists, take_from_lists, log_left, undo_answered, undo_lists}
+use Rattle.rq_engine.proofs.Wanting.{begun_frames, undo_frames}
 use Rattle.rq_engine.proofs.engine.Engine.call.Goals as goal
 
 pub returns-in-Err-clause-refused : goal.returns-in-Err-clause-refused
@@ -106,3 +107,12 @@ returns-in-StartReceiveFrom-clause-pages g c = rw (c.in-StartReceiveFrom.is) (c.
 
 pub returns-in-UndoNext-clause-pages : goal.returns-in-UndoNext-clause-pages
 returns-in-UndoNext-clause-pages g c = rw (c.in-UndoNext.is) (c.undo_next.ensures.devices.0, undo_counts c.args.self.now c.undo_next.new.self g.P.PageDevice c.undo_next.result _ c.undo_next.ensures.faults c.undoing.ensures)
+
+pub returns-in-StartReceive-clause-frames : goal.returns-in-StartReceive-clause-frames
+returns-in-StartReceive-clause-frames g c = rw (c.in-StartReceive.is) (begun_frames _ c.args.self.now c.start_receive.new.self.state c.start_receive.result _ c.start_receive.ensures.frames c.receive_reply.ensures)
+
+pub returns-in-StartReceiveFrom-clause-frames : goal.returns-in-StartReceiveFrom-clause-frames
+returns-in-StartReceiveFrom-clause-frames g c = rw (c.in-StartReceiveFrom.is) (begun_frames _ c.args.self.now c.start_receive_from.new.self.state c.start_receive_from.result _ c.start_receive_from.ensures.frames c.receive_reply-in-StartReceiveFrom.ensures)
+
+pub returns-in-UndoNext-clause-frames : goal.returns-in-UndoNext-clause-frames
+returns-in-UndoNext-clause-frames g c = rw (c.in-UndoNext.is) (undo_frames _ c.args.self.now c.undo_next.new.self.state c.undo_next.result _ c.undo_next.ensures.frames c.undoing.ensures)

@@ -7,6 +7,7 @@ use Rattle.rq_engine.proofs.Free.{all_latched}
 use Rattle.rq_engine.proofs.KeptUp.{pages_still, read_state, so_far_then, tried_latched}
 use Rattle.rq_engine.proofs.Leveled.{take_found, take_held, take_more, take_other}
 use Rattle.rq_engine.proofs.TakeCalls.{may_then, take_tried, takes_tried}
+use Rattle.rq_engine.proofs.Wanting.{take_frames, takes_frames}
 use Rattle.rq_engine.proofs.engine.Engine.start_any_take.Goals as goal
 
 pub start_free_take-answer-requires : goal.start_free_take-answer-requires
@@ -55,3 +56,18 @@ returns-clause-taken g c honest =
     let own : IsTakeOf s c.args.txn c.args.number (λ e. has_held c.args.txn e s.ends.receiving ≡ true) c.start_own_take.result c.start_own_take.new.self.state =
     subst (λ (x : State). IsTakeOf x c.args.txn c.args.number (λ e. has_held c.args.txn e x.ends.receiving ≡ true) c.start_own_take.result c.start_own_take.new.self.state) (read_state g.P.PageDevice _ _ (so_far_then g.P.PageDevice _ _ _ one two).0 truly) (c.start_own_take.ensures.taken honest) in
     take_more s c.args.txn c.args.number (λ _. ⊤) c.start_own_take.new.self.state c.start_own_take.result (λ e. has_held c.args.txn e s.ends.receiving ≡ true) (all_latched s c.args.txn free) own
+
+pub returns-then-not-is_latched-clause-frames : goal.returns-then-not-is_latched-clause-frames
+returns-then-not-is_latched-clause-frames g c =
+    take_frames g.P.PageDevice c.args.self.now c.args.self.now c.start_take-answer.new.self c.args.txn c.args.number (pages_still g.P.PageDevice _ _ refl, refl) c.start_take-answer.result c.args.first c.requires.waits c.start_take-answer.ensures.tried.devices c.start_take-answer.ensures.frames
+
+pub returns-then-not-is_latched-2-clause-frames : goal.returns-then-not-is_latched-2-clause-frames
+returns-then-not-is_latched-2-clause-frames g c =
+    let one = tried_latched g.P.PageDevice _ _ _ c.start_take-answer.result (sym c.if-not-is_latched.ensures) c.start_take-answer.ensures.tried in
+    takes_frames g.P.PageDevice c.args.self.now c.start_take-answer.new.self c.start_free_take-answer.new.self c.args.txn c.args.number one c.start_free_take-answer.result c.start_free_take-answer.ensures.tried.devices c.start_free_take-answer.ensures.frames
+
+pub returns-clause-frames : goal.returns-clause-frames
+returns-clause-frames g c =
+    let one = tried_latched g.P.PageDevice _ _ _ c.start_take-answer.result (sym c.if-not-is_latched.ensures) c.start_take-answer.ensures.tried in
+    let two = tried_latched g.P.PageDevice _ _ _ c.start_free_take-answer.result (sym c.if-not-is_latched-2.ensures) c.start_free_take-answer.ensures.tried in
+    takes_frames g.P.PageDevice c.args.self.now c.start_free_take-answer.new.self c.start_own_take.new.self c.args.txn c.args.number (so_far_then g.P.PageDevice _ _ _ one two) c.start_own_take.result c.start_own_take.ensures.tried.devices c.start_own_take.ensures.frames

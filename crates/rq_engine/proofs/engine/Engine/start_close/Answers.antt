@@ -15,6 +15,7 @@ use Rattle.rq_engine.proofs.Leveled.{close_held, close_plan, latched_more, refus
 use Rattle.rq_engine.proofs.Refusals.{no_memory}
 use Rattle.rq_engine.proofs.KeptUp.{begun_by, start_left, tried_leaves}
 use Rattle.rq_engine.proofs.Tested.{close_unready}
+use Rattle.rq_engine.proofs.Wanting.{close_writes, full_more, no_test_frames}
 use Rattle.rq_engine.proofs.engine.Engine.start_close.Goals as goal
 
 pub returns-in_default-clause-answered : goal.returns-in_default-clause-answered
@@ -110,3 +111,20 @@ returns-in_err-check_close-clause-refused g c =
 
 pub returns-in_default-clause-refused : goal.returns-in_default-clause-refused
 returns-in_default-clause-refused g c = (c.in_ok-check_close.ensures.tested c.in_ok-number.ensures.passes, refl)
+
+pub returns-in-Ok-start_planned-clause-frames : goal.returns-in-Ok-start_planned-clause-frames
+returns-in-Ok-start_planned-clause-frames g c = c.in-Ok-start_planned.ensures.frames (Chain (Close c.args.sender)) (chained c.in-Ok.op.level c.in-Ok.op.bytes _ c.in-Ok.ensures.told)
+
+pub returns-clause-full : goal.returns-clause-full
+returns-clause-full g c =
+    full_more c.args.self.now _ _ (λ ws a honest. close_writes c.args.self.now.state ws c.args.sender c.in_ok-number.number c.in_ok-check_close.ensures.sender (a honest)) c.in-Err.refusal (c.in-Err.ensures.frames (Chain (Close c.args.sender)) (chained c.in-Ok.op.level c.in-Ok.op.bytes _ c.in-Ok.ensures.told))
+
+pub returns-in_err-number-clause-full : goal.returns-in_err-number-clause-full
+returns-in_err-number-clause-full g c =
+    let none = (λ (A : Type 0). no_test_frames A _ c.in_err-number.ensures.refused.plain) in
+    search (rules, none)
+
+pub returns-in_err-check_close-clause-full : goal.returns-in_err-check_close-clause-full
+returns-in_err-check_close-clause-full g c =
+    let none = (λ (A : Type 0). no_test_frames A _ c.in_err-check_close.ensures.tests) in
+    search (rules, none)

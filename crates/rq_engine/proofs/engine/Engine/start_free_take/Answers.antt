@@ -10,6 +10,7 @@ use Rattle.rq_engine.proofs.KeptUp.{read_state, so_far_then, tried_held, tried_l
 use Rattle.rq_engine.proofs.Leveled.{start_held, take_found, take_none}
 use Rattle.rq_engine.proofs.TakeCalls.{may_then, take_tried}
 use Rattle.rq_engine.proofs.engine.Engine.start_free_take.Goals as goal
+use Rattle.rq_engine.proofs.Wanting.{take_frames}
 use Rattle.rq_page.specs.Sizes.{sender_count}
 
 pub start_take-answer-requires-clause-may : goal.start_take-answer-requires-clause-may
@@ -65,3 +66,7 @@ returns-clause-taken g c honest =
       | inl earlier ↦ c.loop-sender.invariant.1 honest e earlier free waiting
       | inr later ↦ let no = none e later free in let some = waiting.2 in absurd (omega (arith, no, some))
     ])
+
+pub returns-then-not-is_latched-clause-frames : goal.returns-then-not-is_latched-clause-frames
+returns-then-not-is_latched-clause-frames g c =
+    take_frames g.P.PageDevice c.args.self.now c.loop-sender.self c.start_take-answer.new.self c.args.txn c.args.number c.loop-sender.invariant.0 c.start_take-answer.result c.in-Some.sender (c.in-Some.ensures.waits c.args.txn) c.start_take-answer.ensures.tried.devices c.start_take-answer.ensures.frames

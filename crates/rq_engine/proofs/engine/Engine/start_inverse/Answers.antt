@@ -12,13 +12,14 @@ use Rattle.rq_planner.specs.Asked.Asked.{Undo}
 use Rattle.rq_engine.specs.Answers.{HasNothingUnderWay}
 use Rattle.rq_engine.specs.Invariant.{IsDoneConsistent, IsLogged}
 use Rattle.rq_level.specs.declared.writes.Plan.{Plan}
-use Rattle.rq_engine.specs.Plans.{HasBegunBack, HasTurnedBack, LevelsAnswer, known_part, to_undo, turned_back}
+use Rattle.rq_engine.specs.Plans.{HasBegunBack, HasTurnedBack, IsInversePlan, LevelsAnswer, known_part, to_undo, turned_back}
 use Rattle.rq_engine.specs.Sends.{HasRoom}
 use Rattle.rq_engine.proofs.AbortCalls.{turned_idle}
 use Rattle.rq_sound.specs.Plans.{AreUnlatched}
 use Rattle.rq_engine.proofs.KeptUp.{but_same, may_start, read_state, tried_planned, tried_refused}
 use Rattle.rq_engine.proofs.Leveled.{begins_planned, never_failed, no_read, no_read_as, plain_begun, plan_refused, read_on, start_answered}
 use Rattle.rq_engine.proofs.SendCalls.{has_room}
+use Rattle.rq_engine.proofs.Wanting.{no_plan_frames, planned_frames}
 use Rattle.rq_engine.proofs.engine.Engine.start_inverse.Goals as goal
 
 pub plan_inverse-requires-clause-logged : goal.plan_inverse-requires-clause-logged
@@ -107,3 +108,19 @@ returns-in-Ok-clause-plain g c = plain_begun (g.P.PageDevice.honest c.launch.new
 
 pub returns-in-Err-clause-plain : goal.returns-in-Err-clause-plain
 returns-in-Err-clause-plain g c = never_failed c.in-Err.why (may_start c.in-Err.why c.in-Err.ensures.causes)
+
+pub returns-in-Ok-clause-frames : goal.returns-in-Ok-clause-frames
+returns-in-Ok-clause-frames g c =
+    let s = c.args.self.now.state in
+    let f = c.args.done.now in
+    let ws = c.in-Ok.plan.writes.items in
+    planned_frames g.P.PageDevice c.args.self.now c.plan_inverse.new.self c.in-Ok.ensures.read c.args.txn (record { number = c.args.number; writes = ws; made = 0; aim = Undoing f.lsn f.deed }) (λ l. g.P.PageDevice.honest c.launch.new.self.pages → IsInversePlan s f.deed l) c.launch.new.self.state (turned_back c.plan_inverse.new.self.state c.args.txn c.args.number f ws)
+    (turned_idle s c.args.txn c.args.number (Some f) c.requires.ready)
+    (λ honest.
+    let is = c.in-Ok.ensures.planned (c.launch.ensures.devices.0.honest honest, read_on c.in-Ok.plan) f.deed (ap deed_back c.op_end_of.ensures ∙ c.requires.kept.reads) c.requires.kept.sender in
+    let p : IsPlanBack (known_part s) f.deed c.in-Ok.plan = is.plan in
+    record { planned = p.follows.0; slots = c.in-Ok.ensures.lawful.slots; free = p.follows.1; lowest = p.lowest })
+    refl c.launch.result c.launch.ensures.launched c.launch.ensures.frames
+
+pub returns-in-Err-clause-frames : goal.returns-in-Err-clause-frames
+returns-in-Err-clause-frames g c = no_plan_frames _ c.in-Err.why c.in-Err.ensures.causes

@@ -15,6 +15,7 @@ use Rattle.rq_engine.proofs.Leveled.{latched_more, mark_held, mark_plan, refused
 use Rattle.rq_engine.proofs.Refusals.{no_memory, not_full}
 use Rattle.rq_engine.proofs.KeptUp.{begun_by, start_left, tried_leaves}
 use Rattle.rq_engine.proofs.Tested.{mark_unready}
+use Rattle.rq_engine.proofs.Wanting.{full_more, mark_writes, no_test_frames}
 use Rattle.rq_engine.proofs.engine.Engine.start_mark.Goals as goal
 
 pub returns-in_default-clause-answered : goal.returns-in_default-clause-answered
@@ -151,3 +152,20 @@ returns-in_err-check_mark-clause-refused g c =
 
 pub returns-in_default-clause-refused : goal.returns-in_default-clause-refused
 returns-in_default-clause-refused g c = (c.in_ok-check_mark.ensures.tested c.args.tag c.in_ok-number.ensures.passes, refl)
+
+pub returns-in-Ok-start_planned-clause-frames : goal.returns-in-Ok-start_planned-clause-frames
+returns-in-Ok-start_planned-clause-frames g c = c.in-Ok-start_planned.ensures.frames (Tag (record { client = c.args.client; tag = c.args.tag })) (tagged c.in-Ok.op.level c.in-Ok.op.bytes _ (ap (λ (j : Job). j.level) c.in-Ok.ensures.op) c.in-Ok.ensures.told)
+
+pub returns-clause-full : goal.returns-clause-full
+returns-clause-full g c =
+    full_more c.args.self.now _ _ (λ ws a honest. mark_writes c.args.self.now.state ws (record { client = c.args.client; tag = c.args.tag }) c.in_ok-number.number (c.in_ok-check_mark.ensures.client c.args.tag).0 (a honest)) c.in-Err.refusal (c.in-Err.ensures.frames (Tag (record { client = c.args.client; tag = c.args.tag })) (tagged c.in-Ok.op.level c.in-Ok.op.bytes _ (ap (λ (j : Job). j.level) c.in-Ok.ensures.op) c.in-Ok.ensures.told))
+
+pub returns-in_err-number-clause-full : goal.returns-in_err-number-clause-full
+returns-in_err-number-clause-full g c =
+    let none = (λ (A : Type 0). no_test_frames A _ c.in_err-number.ensures.refused.plain) in
+    search (rules, none)
+
+pub returns-in_err-check_mark-clause-full : goal.returns-in_err-check_mark-clause-full
+returns-in_err-check_mark-clause-full g c =
+    let none = (λ (A : Type 0). no_test_frames A _ c.in_err-check_mark.ensures.tests) in
+    search (rules, none)

@@ -12,6 +12,7 @@ use Rattle.rq_engine.proofs.KeptUp.{pages_still, read_state, so_far_then, tried_
 use Rattle.rq_engine.proofs.Leveled.{take_held, take_none, take_other}
 use Rattle.rq_engine.proofs.Opened.{state_is}
 use Rattle.rq_engine.proofs.TakeCalls.{may_then, takes_tried}
+use Rattle.rq_engine.proofs.Wanting.{takes_frames}
 use Rattle.rq_engine.proofs.engine.Engine.start_own_take.Goals as goal
 
 pub loop-next-init : goal.loop-next-init
@@ -72,3 +73,7 @@ returns-clause-taken g c honest =
     let over : c.loop-next.next ≡ None = none_left c.loop-next.next c.in_default.not-Some in
     take_none s c.args.txn c.args.number (λ e. has_held c.args.txn e s.ends.receiving ≡ true) _
     (λ e held waits. walk_over own P (subst (λ (o : Option ℕ). IsWalk own o P) over (c.loop-next.invariant.2 honest)) e (sym (has_is_number c.args.txn e s.ends.receiving) ∙ held) waits)
+
+pub returns-then-not-is_latched-clause-frames : goal.returns-then-not-is_latched-clause-frames
+returns-then-not-is_latched-clause-frames g c =
+    takes_frames g.P.PageDevice c.args.self.now c.loop-next.self c.start_waiting-answer.new.self c.args.txn c.args.number c.loop-next.invariant.0 c.start_waiting-answer.result c.start_waiting-answer.ensures.tried.devices c.start_waiting-answer.ensures.frames

@@ -10,12 +10,13 @@ use Rattle.rq_planner.specs.Asked.Asked.{Do}
 use Rattle.rq_planner.specs.Lawful.{IsLawfulPlan}
 use Rattle.rq_planner.proofs.Asking.{asked_of}
 use Rattle.rq_engine.specs.Answers.{HasNothingUnderWay}
-use Rattle.rq_engine.specs.Plans.{HasBegun, HasStarted, IsWithin, planned_of, records_of, started_with, under_plan}
+use Rattle.rq_engine.specs.Plans.{AreWritesFor, HasBegun, HasStarted, IsWithin, planned_of, records_of, started_with, under_plan}
 use Rattle.rq_engine.specs.Sends.{HasRoom}
 use Rattle.rq_sound.specs.Plans.{AreUnlatched}
 use Rattle.rq_engine.proofs.KeptUp.{but_same, may_start, read_state, tried_planned, tried_refused}
 use Rattle.rq_engine.proofs.Leveled.{asked_for, asked_stored, begins_planned, deed_plan, latched_refused, latched_then, never_failed, no_read, no_read_as, plain_begun, plan_refused, read_on, some_task, start_answered, within}
 use Rattle.rq_engine.proofs.SendCalls.{has_room}
+use Rattle.rq_engine.proofs.Wanting.{no_plan_frames, planned_frames}
 use Rattle.rq_engine.proofs.engine.Engine.start_planned.Goals as goal
 
 pub plan-requires-clause-asked : goal.plan-requires-clause-asked
@@ -114,3 +115,19 @@ returns-in-Ok-clause-answered g c given =
 
 pub returns-in-Err-clause-answered : goal.returns-in-Err-clause-answered
 returns-in-Err-clause-answered g c given = record { plan = Err c.in-Err.refusal; asked = c.in-Err.ensures.answered (given.0, no_read_as c.in-Err.refusal given.1); begun = refl }
+
+pub returns-in-Ok-clause-frames : goal.returns-in-Ok-clause-frames
+returns-in-Ok-clause-frames g c d e =
+    let s = c.args.self.now.state in
+    let plan = c.in-Ok.plan in
+    let planned = planned_of c.level.result plan in
+    let inside : IsWithin s.sizes d = subst (λ (x : Task). IsWithin s.sizes x) (some_task c.requires.may.task d (sym c.requires.may.is ∙ e)) c.requires.may.may.inside in
+    let lawful : IsLawfulPlan s.sizes c.level.result plan = subst (λ (n : ℕ). IsLawfulPlan s.sizes n plan) (sym c.level.ensures) c.in-Ok.ensures.lawful in
+    planned_frames g.P.PageDevice c.args.self.now c.plan.new.self c.in-Ok.ensures.read c.args.txn (under_plan c.args.number planned) (λ ws. g.P.PageDevice.honest c.start.new.self.pages → AreWritesFor s d ws) c.start.new.self.state (started_with c.plan.new.self.state c.args.txn c.args.number c.args.end planned) c.requires.may.may.ready
+    (λ honest.
+    let is = c.in-Ok.ensures.planned (c.start.ensures.devices.0.honest honest, read_on plan) d e (within s.sizes d inside) in
+    (planned, deed_plan d plan c.level.result (c.level.ensures ∙ asked_of c.args.op.now.level c.args.op.now.bytes d e) s is.plan lawful, refl))
+    refl c.start.result c.start.ensures.started c.start.ensures.frames
+
+pub returns-in-Err-clause-frames : goal.returns-in-Err-clause-frames
+returns-in-Err-clause-frames g c d e = no_plan_frames _ c.in-Err.refusal c.in-Err.ensures.causes

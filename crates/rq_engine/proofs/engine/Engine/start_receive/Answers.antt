@@ -15,6 +15,7 @@ use Rattle.rq_engine.proofs.Leveled.{latched_for, refused_for, take_plan}
 use Rattle.rq_engine.proofs.TakeCalls.{any_refused, log_is_full, none_done, passes, some, take_done, take_memory, take_started}
 use Rattle.rq_engine.proofs.KeptUp.{begun_by, start_left, tried_leaves}
 use Rattle.rq_engine.proofs.Tested.{take_log_full, take_tested, take_unready}
+use Rattle.rq_engine.proofs.Wanting.{any_writes, full_more, no_test_frames}
 use Rattle.rq_engine.proofs.engine.Engine.start_receive.Goals as goal
 
 pub returns-in_default-clause-answered : goal.returns-in_default-clause-answered
@@ -118,3 +119,14 @@ returns-in_err-number-clause-refused g c =
 
 pub returns-then-is_log_full-clause-refused : goal.returns-then-is_log_full-clause-refused
 returns-then-is_log_full-clause-refused g c = take_log_full c.args.self.now c.args.txn c.in_ok-number.ensures.passes (sym c.if-is_log_full.ensures)
+
+pub returns-in-Ok-clause-frames : goal.returns-in-Ok-clause-frames
+returns-in-Ok-clause-frames g c = c.in-Ok.ensures.frames
+
+pub returns-in-Err-clause-frames : goal.returns-in-Err-clause-frames
+returns-in-Err-clause-frames g c = full_more c.args.self.now _ _ (λ ws a honest. any_writes c.args.self.now.state ws c.args.txn c.in_ok-number.number (a honest)) c.in-Err.refusal c.in-Err.ensures.frames
+
+pub returns-in_err-number-clause-frames : goal.returns-in_err-number-clause-frames
+returns-in_err-number-clause-frames g c =
+    let none = (λ (A : Type 0). no_test_frames A _ c.in_err-number.ensures.refused.plain) in
+    search (rules, none)

@@ -17,6 +17,7 @@ use Rattle.rq_engine.proofs.Opened.{state_is}
 use Rattle.rq_engine.proofs.TakeCalls.{from_refused, log_is_full, none_from_done, one, passes_from, receiver_busy, take_done, take_memory, take_started}
 use Rattle.rq_engine.proofs.KeptUp.{begun_by, start_left, tried_leaves}
 use Rattle.rq_engine.proofs.Tested.{from_busy, from_log_full, from_tested, from_unknown, from_unready}
+use Rattle.rq_engine.proofs.Wanting.{full_more, no_test_frames, take_writes}
 use Rattle.rq_engine.proofs.engine.Engine.start_receive_from.Goals as goal
 
 pub returns-then-not-may_receive-clause-answered : goal.returns-then-not-may_receive-clause-answered
@@ -203,3 +204,19 @@ returns-then-is_log_full-clause-refused g c =
     let below : c.args.sender < sender_count c.args.self.now.state.sizes = omega (arith, n, lt) in
     let free : is_free_for c.args.txn c.args.sender c.args.self.now.state.ends.receiving ≡ true = ap (λ (s : State). is_free_for c.args.txn c.args.sender s.ends.receiving) (sym (state_is c.self.view_is)) ∙ sym c.if-not-may_receive.ensures in
     from_log_full c.args.self.now c.args.txn c.in_ok-number.ensures.passes c.args.sender below free (sym c.if-is_log_full.ensures)
+
+pub returns-in-Ok-clause-frames : goal.returns-in-Ok-clause-frames
+returns-in-Ok-clause-frames g c = c.in-Ok.ensures.frames
+
+pub returns-in-Err-clause-frames : goal.returns-in-Err-clause-frames
+returns-in-Err-clause-frames g c =
+    let s = c.args.self.now.state in
+    let n : c.senders.result ≡ sender_count s.sizes = c.senders.ensures.number ∙ ap sender_count (c.layout.ensures.sizes ∙ ap (λ (x : State). x.sizes) (state_is c.self.view_is)) in
+    let lt = c.if-sender-senders.false in
+    let below : c.args.sender < sender_count s.sizes = omega (arith, n, lt) in
+    full_more c.args.self.now _ _ (λ ws a honest. take_writes s ws c.args.sender c.in_ok-number.number below (a honest)) c.in-Err.refusal c.in-Err.ensures.frames
+
+pub returns-in_err-number-clause-frames : goal.returns-in_err-number-clause-frames
+returns-in_err-number-clause-frames g c =
+    let none = (λ (A : Type 0). no_test_frames A _ c.in_err-number.ensures.refused.plain) in
+    search (rules, none)

@@ -21,6 +21,8 @@ use Rattle.rq_engine.specs.KeptUp.{KeepsDevices, with_images_of}
 use Rattle.rq_engine.specs.Opened.{OpenStore}
 use Rattle.rq_engine.proofs.KeptUp.{begun_by, start_left, tried_leaves}
 use Rattle.rq_engine.proofs.Tested.{send_unready}
+use Rattle.rq_engine.proofs.Wanting.{full_more, no_test_frames, send_writes}
+use Rattle.rq_engine.specs.Fixing.{HadFrames}
 use Rattle.rq_engine.proofs.engine.Engine.start_send.Goals as goal
 
 pub returns-in_default-clause-answered : goal.returns-in_default-clause-answered
@@ -146,3 +148,21 @@ returns-in_err-check_send-clause-refused g c =
 
 pub returns-in_default-clause-refused : goal.returns-in_default-clause-refused
 returns-in_default-clause-refused g c = (c.in_ok-check_send.ensures.tested c.in_ok-number.ensures.passes, refl)
+
+pub returns-in-Ok-start_planned-clause-frames : goal.returns-in-Ok-start_planned-clause-frames
+returns-in-Ok-start_planned-clause-frames g c =
+    subst (λ (s : State). HadFrames c.args.self.now (record { txn = c.args.txn; number = c.in_ok-number.number }) s) (sym (state_is c.self-2.view_is)) (c.in-Ok-start_planned.ensures.frames (Chain (Send c.args.sender c.args.tag c.args.body.now)) (chained c.in-Ok.op.level c.in-Ok.op.bytes _ (c.in-Ok.ensures.told c.in_ok-check_send.ensures.short)))
+
+pub returns-clause-full : goal.returns-clause-full
+returns-clause-full g c =
+    full_more c.args.self.now _ _ (λ ws a honest. send_writes c.args.self.now.state ws c.args.sender c.in_ok-number.number c.args.tag c.args.body.now c.in_ok-check_send.ensures.sender (a honest)) c.in-Err.refusal (c.in-Err.ensures.frames (Chain (Send c.args.sender c.args.tag c.args.body.now)) (chained c.in-Ok.op.level c.in-Ok.op.bytes _ (c.in-Ok.ensures.told c.in_ok-check_send.ensures.short)))
+
+pub returns-in_err-number-clause-full : goal.returns-in_err-number-clause-full
+returns-in_err-number-clause-full g c =
+    let none = (λ (A : Type 0). no_test_frames A _ c.in_err-number.ensures.refused.plain) in
+    search (rules, none)
+
+pub returns-in_err-check_send-clause-full : goal.returns-in_err-check_send-clause-full
+returns-in_err-check_send-clause-full g c =
+    let none = (λ (A : Type 0). no_test_frames A _ c.in_err-check_send.ensures.tests) in
+    search (rules, none)

@@ -30,3 +30,6 @@ returns-clause-tried g c = c.start_planned.ensures.tried (Chain (Receive c.args.
 
 pub returns-clause-started : goal.returns-clause-started
 returns-clause-started g c honest = c.start_planned.ensures.started honest (Chain (Receive c.args.sender)) (chained c.in-Ok.op.level c.in-Ok.op.bytes _ c.in-Ok.ensures.told)
+
+pub returns-clause-frames : goal.returns-clause-frames
+returns-clause-frames g c = c.start_planned.ensures.frames (Chain (Receive c.args.sender)) (chained c.in-Ok.op.level c.in-Ok.op.bytes _ c.in-Ok.ensures.told)

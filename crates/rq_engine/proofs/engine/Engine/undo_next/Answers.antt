@@ -16,6 +16,7 @@ use Rattle.rq_engine.proofs.Leveled.{latched_for, refused_for}
 use Rattle.rq_engine.proofs.Opened.{state_is}
 use Rattle.rq_engine.proofs.KeptUp.{start_left, tried_leaves}
 use Rattle.rq_engine.proofs.Tested.{undo_log_full, undo_tested, undo_unready}
+use Rattle.rq_engine.proofs.Wanting.{full_more, no_test_frames, undo_writes}
 use Rattle.rq_engine.proofs.engine.Engine.undo_next.Goals as goal
 
 pub returns-in_default-clause-answered : goal.returns-in_default-clause-answered
@@ -157,3 +158,18 @@ returns-then-is_log_full-clause-refused g c =
     let f = c.in-Some.done in
     let back : IsTurnedBack s c.args.txn c.in_ok-number.number (Some f) = subst (λ (o : Option Finished). IsTurnedBack s c.args.txn c.in_ok-number.number o) (is_newest_of c.args.self.now.state _ c.args.txn _ _ (state_is c.self.view_is) c.next_undo.ensures c.in-Some.is) c.in_ok-number.ensures.ready in
     undo_log_full c.args.self.now c.args.txn c.in_ok-number.ensures.passes (ap (λ n. log_full (ledger_of s) n) (cost_found s c.args.txn c.in_ok-number.number f c.in_ok-number.ensures.passes back ∙ sym c.undo_records.ensures) ∙ sym c.if-is_log_full.ensures)
+
+pub returns-in-Ok-clause-frames : goal.returns-in-Ok-clause-frames
+returns-in-Ok-clause-frames g c = c.in-Ok.ensures.frames
+
+pub returns-in-Err-clause-frames : goal.returns-in-Err-clause-frames
+returns-in-Err-clause-frames g c =
+    let s = c.args.self.now.state in
+    let f = c.in-Some.done in
+    let back : IsTurnedBack s c.args.txn c.in_ok-number.number (Some f) = subst (λ (o : Option Finished). IsTurnedBack s c.args.txn c.in_ok-number.number o) (is_newest_of c.args.self.now.state _ c.args.txn _ _ (state_is c.self.view_is) c.next_undo.ensures c.in-Some.is) c.in_ok-number.ensures.ready in
+    full_more c.args.self.now _ _ (λ ws a honest. undo_writes s ws c.args.txn c.in_ok-number.number f back (a honest)) c.in-Err.refusal c.in-Err.ensures.frames
+
+pub returns-in_err-number-clause-frames : goal.returns-in_err-number-clause-frames
+returns-in_err-number-clause-frames g c =
+    let none = (λ (A : Type 0). no_test_frames A _ c.in_err-number.ensures.refused.plain) in
+    search (rules, none)
