@@ -49,12 +49,12 @@ among_one (p ∷ ps) q e = elim (cases_eq p q) [
       record { at = suc one.at; within = omega (arith, lt); is = one.is }
 ]
 
-framed_here : (hs : List Held) (i q : ℕ) → i < length hs → page_at hs i ≡ q → framed_in hs q ≡ true
+pub framed_here : (hs : List Held) (i q : ℕ) → i < length hs → page_at hs i ≡ q → framed_in hs q ≡ true
 framed_here [] i q lt is = absurd (omega (arith, lt))
 framed_here (h ∷ hs) zero q lt is = ap (λ (b : Bool). b || framed_in hs q) (same_yes h.page q is)
 framed_here (h ∷ hs) (suc i) q lt is = or_right (nat_eq h.page q) (framed_in hs q) (framed_here hs i q (omega (arith, lt)) is)
 
-lacks_none : (frames : List Held) (ps : List ℕ) → ((q : ℕ) → among ps q ≡ true → framed_in frames q ≡ true) → sum_by (lack frames) ps ≡ 0
+pub lacks_none : (frames : List Held) (ps : List ℕ) → ((q : ℕ) → among ps q ≡ true → framed_in frames q ≡ true) → sum_by (lack frames) ps ≡ 0
 lacks_none frames [] all = refl
 lacks_none frames (p ∷ ps) all =
     let a : lack frames p ≡ 0 = ap one_unless (all p (ap (λ (b : Bool). b || among ps p) (same_yes p p refl))) in

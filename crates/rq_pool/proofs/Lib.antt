@@ -9,3 +9,4 @@ pub mod Growths
 pub mod KeptUp
 pub mod Fetched
 pub mod Holding
+pub mod Counting

@@ -161,6 +161,8 @@ impl<P: PageDevice> Pages<P> {
     ghost use Rattle.rq_pool.specs.Held.{IsFixed, StandOnce};
     ghost use Rattle.rq_pool.specs.Pooled.{AreOver};
     ghost use Rattle.rq_pool.specs.Fetching.{AreAllFramed, Fetches, IsAtHand};
+    ghost use Rattle.rq_pool.specs.Want.{CannotBeHad, OutnumberFrames};
+    ghost use Rattle.std.specs.Prelude.{List};
 
     /// What is so of the pages of each store, for proofs: it runs no code. Where the device has been honest, each page
     /// that doesn't count as changed reads there as its image.
@@ -177,10 +179,13 @@ impl<P: PageDevice> Pages<P> {
         let _layout = self.layout;
     }
 
-    /// Each page stands in one frame at most, and the superblock is fixed in its own, for proofs: it runs no code.
+    /// Each page stands in one frame at most, and the superblock is fixed in its own. Pages cannot be had exactly where they and
+    /// those that have to stay are more than the frames. For proofs: it runs no code.
     pub fn shows_frames(&self)
         ensures once { StandOnce self.now.frames }
         ensures superblock { IsFixed self.now.frames 0 }
+        ensures counted { (forced : ℕ) (pages : List ℕ)
+            → CannotBeHad self.now forced pages ↔ OutnumberFrames self.now forced pages }
     {
         let _layout = self.layout;
     }
