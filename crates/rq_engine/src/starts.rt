@@ -146,6 +146,7 @@ impl<P: PageDevice, L: LogDevice, B: Level> Engine<P, L, B> {
         ensures causes { IfErr result (NotBegun (P.honest self.new.pages)) }
         ensures frames { IsForFrames (pooled self.old) self.old.state.forced (pages_of operation.writes.items) result }
     {
+        self.pages.shows_frames();
         let pages = PageNumbers::of(&operation.writes);
         match self.pages.fix_all(pages.as_slice(), self.log.forced()) {
             Ok(()) => {}
