@@ -1,92 +1,19 @@
 -- Pages that all stand in frames, and pages that were read again one after the other.
-use Rattle.std.proofs.Common.{Bool, false, [], ◌∷◌, ◌++◌, slice_index_or, slice_set, ◌≡◌, ℕ, zero, suc, ◌+◌, ◌%◌, ◌^◌, ◌<◌, ◌≤◌, List, Result, length, refl, sym, ap, subst, arith, ◌∙◌, inl, inr, Ok, Err, ⊎_elim}
-use Rattle.std.proofs.lemmas.Bool.{false≢true, true≢false}
+use Rattle.std.proofs.Common.{Some, false, ◌≡◌, ◌≢◌, ℕ, ◌+◌, ◌%◌, ◌^◌, ◌<◌, ◌≤◌, List, Result, refl, sym, ap, subst, arith, ◌∙◌, inl, inr, Ok, Err, ⊎_elim}
+use Rattle.std.proofs.lemmas.Bool.{false≢true}
 use Rattle.rq_model.specs.declared.refusal.Damage.TheVariants as damage
 use Rattle.rq_model.specs.declared.refusal.Refusal.{Refusal}
 use Rattle.rq_model.specs.declared.refusal.Refusal.TheVariants as why
 use Rattle.rq_page.specs.Sizes.{Sizes, page_count}
 use Rattle.rq_disk.specs.Device.{PageAsk}
 use Rattle.rq_disk.specs.declared.device.PageDevice.{Ghosts}
-use Rattle.rq_pool.specs.Pooled.{Pooled}
-use Rattle.rq_pool.specs.Held.{Held, IsFixed, IsFramed, IsSetAt, StandOnce, fixed_at, page_at}
-use Rattle.rq_pool.specs.Frames.{IsFirstAlone, IsFirstFixed, in_order}
-use Rattle.rq_pool.specs.Reading.{OnlyRead}
-use Rattle.rq_pool.specs.Fetching.{AreAllFramed, Fetches, HasFailed, HasOutside, HasReadFor, IsAtHand, IsReadAsStored, IsUnread, MayHaveRead, NotFetched, ReadFails, ReadsTruly}
-use Rattle.rq_pool.proofs.KeptUp.{kept_still, kept_then}
+use Rattle.rq_pool.specs.Indexed.{AreFlaggedAlike, AreNotedOn, closed_groups, free_cells}
+use Rattle.rq_pool.specs.Pooled.{Pooled, image_at, is_changed}
+use Rattle.rq_pool.specs.Held.{Held, IsFramed}
+use Rattle.rq_pool.specs.Reading.{IsSoundPage, OnlyRead}
+use Rattle.rq_pool.specs.Fetching.{AreAllFramed, Fetches, HasFailed, HasOutside, HasReadFor, IsAtHand, IsReadAsStored, IsUnread, MayHaveRead, NotFetched, NotReadAgain, ReadFails, ReadsTruly}
+use Rattle.rq_pool.proofs.KeptUp.{flagged_alike, kept_read, kept_still, kept_then}
 use Rattle.rq_pool.proofs.Readings.{only_read_on}
-
-length_in_order : (p : ℕ) (fixed : List Bool) → length (in_order p fixed) ≡ length fixed
-length_in_order p [] = refl
-length_in_order p (f ∷ fixed) = ap suc (length_in_order (suc p) fixed)
-
-page_in_order : (p : ℕ) (fixed : List Bool) (i : ℕ) → i < length fixed → page_at (in_order p fixed) i ≡ p + i
-page_in_order p [] i lt = absurd (omega (arith, lt))
-page_in_order p (f ∷ fixed) zero lt = omega arith
-page_in_order p (f ∷ fixed) (suc i) lt = page_in_order (suc p) fixed i (omega (arith, lt)) ∙ omega arith
-
-fixed_in_order : (p : ℕ) (fixed : List Bool) (i : ℕ) → fixed_at (in_order p fixed) i ≡ slice_index_or fixed i false
-fixed_in_order p [] i = refl
-fixed_in_order p (f ∷ fixed) zero = refl
-fixed_in_order p (f ∷ fixed) (suc i) = fixed_in_order (suc p) fixed i
-
--- each page stands in the frame of its number
-pub stands : (frames : List Held) (fixed : List Bool) (p : ℕ) → frames ≡ in_order 0 fixed → p < length fixed → IsFramed frames p
-stands frames fixed p is lt = subst (λ (f : List Held). IsFramed f p) (sym is) (record {
-  at = p;
-  within = (let long = length_in_order 0 fixed in omega (arith, long, lt));
-  is = page_in_order 0 fixed p lt ∙ omega arith;
-})
-
--- and in no other
-pub stands_once : (fixed : List Bool) (i p : ℕ) → i < length (in_order 0 fixed) → page_at (in_order 0 fixed) i ≡ p → i ≡ p
-stands_once fixed i p lt is = let long = length_in_order 0 fixed in let at = page_in_order 0 fixed i (omega (arith, long, lt)) in omega (arith, at, is)
-
--- it is fixed there, or let go
-pub set_in_order : (p : ℕ) (fixed : List Bool) (i : ℕ) (b : Bool) → in_order p (slice_set fixed i b) ≡ slice_set (in_order p fixed) i (record { page = p + i; fixed = b })
-set_in_order p [] i b = refl
-set_in_order p (f ∷ fixed) zero b = ap (λ (n : ℕ). record { page = n; fixed = b } ∷ in_order (suc p) fixed) (omega arith)
-set_in_order p (f ∷ fixed) (suc i) b = ap (λ (hs : List Held). record { page = p; fixed = f } ∷ hs)
-    (set_in_order (suc p) fixed i b ∙ ap (λ (n : ℕ). slice_set (in_order (suc p) fixed) i (record { page = n; fixed = b })) (omega arith))
-
-pub held_at : (fixed : List Bool) (p : ℕ) (b : Bool) → p < length fixed → IsSetAt b (in_order 0 fixed) p (in_order 0 (slice_set fixed p b))
-held_at fixed p b lt = record {
-  at = p;
-  within = (let long = length_in_order 0 fixed in omega (arith, long, lt));
-  is = page_in_order 0 fixed p lt ∙ omega arith;
-  only = λ i within is. stands_once fixed i p within is;
-  now = set_in_order 0 fixed p b ∙ ap (λ (n : ℕ). slice_set (in_order 0 fixed) p (record { page = n; fixed = b })) (omega arith);
-}
-
--- the superblock stays fixed, where another page is added or is fixed or let go
-pub first_stays : (fixed : List Bool) → IsFirstFixed fixed → IsFirstFixed (fixed ++ false ∷ [])
-first_stays [] first = absurd (false≢true first)
-first_stays (f ∷ fixed) first = first
-
-pub first_set : (fixed : List Bool) (i : ℕ) (b : Bool) → 1 ≤ i → IsFirstFixed fixed → IsFirstFixed (slice_set fixed i b)
-first_set [] i b behind first = first
-first_set (f ∷ fixed) zero b behind first = absurd (omega (arith, behind))
-first_set (f ∷ fixed) (suc i) b behind first = first
-
-pub first_fixed : (fixed : List Bool) → IsFirstFixed fixed → IsFixed (in_order 0 fixed) 0
-first_fixed [] first = absurd (false≢true first)
-first_fixed (f ∷ fixed) first = record { at = 0; within = omega arith; is = refl; fixed = first }
-
-pub in_order_once : (fixed : List Bool) → StandOnce (in_order 0 fixed)
-in_order_once fixed i j low high same = stands_once fixed i (page_at (in_order 0 fixed) j) low same ∙ sym (stands_once fixed j (page_at (in_order 0 fixed) j) high refl)
-
--- no page behind the superblock is fixed as they are read
-pub first_more : (fixed : List Bool) → IsFirstAlone fixed → IsFirstAlone (fixed ++ false ∷ [])
-first_more fixed first i behind = more fixed i ∙ first i behind where
-  more : (xs : List Bool) (k : ℕ) → slice_index_or (xs ++ false ∷ []) k false ≡ slice_index_or xs k false
-  more [] zero = refl
-  more [] (suc k) = refl
-  more (x ∷ xs) zero = refl
-  more (x ∷ xs) (suc k) = more xs k
-
-pub first_loose : (fixed : List Bool) → IsFirstAlone fixed → (q : ℕ) → 1 ≤ q → IsFixed (in_order 0 fixed) q → ⊥
-first_loose fixed first q behind f =
-    let at = stands_once fixed f.at q f.within f.is in
-    true≢false (sym f.fixed ∙ fixed_in_order 0 fixed f.at ∙ first f.at (λ none. (let zero_at = none in absurd (omega (arith, at, behind, zero_at)))))
 
 module _ {P : Type 0} (g : Ghosts P) where
   -- a device that was not called was only read
@@ -123,6 +50,48 @@ module _ {P : Type 0} (g : Ghosts P) where
     read = still_read old;
     others = λ p other. refl;
   })
+
+  -- A page that is not at hand is read apart, or is not.
+  module _ (n : ℕ) (old new : Pooled P) (behind : 1 ≤ n) (within : n < page_count old.sizes) (outside : IsFramed old.frames n → ⊥) (away : old.apart ≢ Some n) (clean : is_changed old.changed n ≡ false) (frames : new.frames ≡ old.frames) (changed : new.changed ≡ old.changed) (sizes : new.sizes ≡ old.sizes) (device : OnlyRead g old.device new.device) where
+    may_read : (g.honest new.device → new.images ≡ old.images) → AreFlaggedAlike old.sizes old.images new.images → ((p : ℕ) → p ≢ n → image_at new.images p ≡ image_at old.images p) → MayHaveRead g old new
+    may_read images flags others = record {
+      kept = λ forced. kept_read g forced old new device sizes images flags changed n clean others;
+      frames = frames;
+      changed = changed;
+      device = device;
+      stood = λ all. absurd (outside (all n behind within));
+      held = λ p framed. others p (λ (is : p ≡ n). outside (subst (λ (q : ℕ). IsFramed old.frames q) is framed));
+    }
+
+    pub fetched_apart : {X : Type 0} (x : X) → new.apart ≡ Some n → (g.honest new.device → new.images ≡ old.images) → AreFlaggedAlike old.sizes old.images new.images → ((p : ℕ) → p ≢ n → image_at new.images p ≡ image_at old.images p)
+        → g.faults new.device ≡ g.faults old.device → Fetches g n old (Ok x) new
+    fetched_apart x apart images flags others faults = record {
+      stood = λ at. absurd (⊎_elim outside away at);
+      hand = inr apart;
+      refused = tt;
+      counted = faults;
+      read = may_read images flags others;
+      others = others;
+    }
+
+    pub not_fetched : {X : Type 0} (e : Refusal) → new.images ≡ old.images → NotFetched g n e old.device new.device → Fetches {X = X} g n old (Err e) new
+    not_fetched e images refused =
+        let others : (p : ℕ) → p ≢ n → image_at new.images p ≡ image_at old.images p = λ p ne. ap (λ (l : List (List ℕ)). image_at l p) images in
+        record {
+          stood = λ at. absurd (⊎_elim outside away at);
+          hand = tt;
+          refused = refused;
+          counted = tt;
+          read = may_read (λ h. images) (flagged_alike old.sizes old.images new.images images) others;
+          others = others;
+        }
+
+  -- of a store that an honest device holds no page is damaged, and the indexes tell of each
+  pub not_read_again : (z : Sizes) (free closed : List ℕ) (n : ℕ) (e : Refusal) (old new : P) → (g.honest new → IsSoundPage z n (g.seen old n)) → (g.honest new → AreNotedOn (free_cells z) z n (g.seen old n) free) → (g.honest new → AreNotedOn (closed_groups z) z n (g.seen old n) closed)
+      → NotReadAgain g z free closed n e old new → NotFetched g n e old new
+  not_read_again z free closed n why.DiskRead old new sound frees closes not = not
+  not_read_again z free closed n (why.Damaged (damage.Page m)) old new sound frees closes not = (not.0, (λ h. not.1 h (sound h) (frees h) (closes h)), not.2)
+  not_read_again z free closed n _ old new sound frees closes not = absurd not
 
   -- what is told of the page then is no matter
   pub fetched_as : {X Y : Type 0} (n m : ℕ) (x : X) (y : Y) (old new : Pooled P) → n ≡ m → Fetches g n old (Ok x) new → Fetches g m old (Ok y) new
@@ -172,7 +141,7 @@ module _ {P : Type 0} (g : Ghosts P) where
   -- ---- some pages were read, and then some on the way of a call
 
   -- a device that had not failed has failed since
-  failed_then : {ask : PageAsk} (mid old new : P) → g.faults mid ≡ g.faults old → HasFailed g ask mid new → HasFailed g ask old new
+  pub failed_then : {ask : PageAsk} (mid old new : P) → g.faults mid ≡ g.faults old → HasFailed g ask mid new → HasFailed g ask old new
   failed_then mid old new same f = record {
     once = subst (λ (n : ℕ). g.faults new ≡ (n + 1) % 2 ^ 64) same f.once;
     before = f.before;

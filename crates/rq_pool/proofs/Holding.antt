@@ -1,186 +1,157 @@
 -- Pages are fixed in their frames, or let go, one after the other.
-use Rattle.std.proofs.Common.{◌≡◌, ◌≢◌, ℕ, zero, suc, ◌+◌, cond, ◌<◌, ◌≤◌, ◌||◌, nat_eq, Bool, true, false, List, [], ◌∷◌, length, slice_index_or, refl, sym, ap, arith, ◌∙◌, inl, inr}
-use Rattle.std.specs.List.{sum_by}
+use Rattle.std.proofs.Common.{◌≡◌, ◌≢◌, ◌⊎◌, ℕ, ◌+◌, ◌<◌, Bool, true, false, List, length, slice_index_or, slice_set, refl, sym, ap, subst, arith, ◌∙◌, inl, inr, ⊎_elim}
 use Rattle.std.proofs.lemmas.Bool.{cases_eq, true≢false}
-use Rattle.std.proofs.lemmas.Bool.Decides.{nat_tests}
 use Rattle.std.proofs.lemmas.List.{get_or-set_same, get_or-set_other, length-set}
-use Rattle.std.proofs.lemmas.List.Sums.{sum_by-cons}
 use Rattle.rq_disk.specs.declared.device.PageDevice.{Ghosts}
-use Rattle.rq_pool.specs.Fetching.{AreAllFramed}
-use Rattle.rq_pool.specs.Held.{Held, IsFixed, IsSetAt, fixed_at, nothing_held, page_at}
+use Rattle.rq_pool.specs.Fixing.{AreEven, AreHeld, AreSetTo, IsSetIn}
+use Rattle.rq_pool.specs.Held.{Held, IsFramed, IsSetAt, fixed_at, nothing_held, page_at}
 use Rattle.rq_pool.specs.KeptUp.{IsKeptUp, IsStill}
 use Rattle.rq_pool.specs.Pooled.{Pooled}
-use Rattle.rq_pool.specs.Want.{AreOfStore, CannotBeHad, NoneFixed, StayFixed, among, distinct, framed_in, lack, missing, one_unless}
+use Rattle.rq_pool.specs.Want.{NoneFixed, StayFixed, among, missing, spare_for}
 use Rattle.rq_pool.proofs.KeptUp.{kept_still}
+use Rattle.rq_pool.proofs.Wants.{among_at, among_one, set_here, set_page, stood_even}
 
-same_yes : (p q : ℕ) → p ≡ q → nat_eq p q ≡ true
-same_yes p q e = grind (arith, nat_tests)
+pub still_first : {P : Type 0} (old : Pooled P) → IsStill old old
+still_first old = record { device = refl; sizes = refl; images = refl; changed = refl; apart = refl }
 
-same_no : (p q : ℕ) → p ≢ q → nat_eq p q ≡ false
-same_no p q ne = grind (arith, nat_tests)
-
-or_right : (a b : Bool) → b ≡ true → (a || b) ≡ true
-or_right true b e = refl
-or_right false b e = e
-
-or_more : (a b c : Bool) → (b ≡ true → c ≡ true) → (a || b) ≡ true → (a || c) ≡ true
-or_more true b c more e = refl
-or_more false b c more e = more e
-
--- ---- wanted pages
-
-pub among_at : (ps : List ℕ) (j : ℕ) → j < length ps → among ps (slice_index_or ps j 0) ≡ true
-among_at [] j lt = absurd (omega (arith, lt))
-among_at (p ∷ ps) zero lt = ap (λ (b : Bool). b || among ps p) (same_yes p p refl)
-among_at (p ∷ ps) (suc j) lt = or_right (nat_eq p (slice_index_or ps j 0)) (among ps (slice_index_or ps j 0)) (among_at ps j (omega (arith, lt)))
-
-pub record IsOne (ps : List ℕ) (q : ℕ) : Type 0 where
-  pub at : ℕ
-  pub within : at < length ps
-  pub is : slice_index_or ps at 0 ≡ q
-
-pub among_one : (ps : List ℕ) (q : ℕ) → among ps q ≡ true → IsOne ps q
-among_one [] q e = absurd (true≢false (sym e))
-among_one (p ∷ ps) q e = elim (cases_eq p q) [
-  | inl here ↦ record { at = 0; within = omega arith; is = here }
-  | inr other ↦
-      let one = among_one ps q (sym (ap (λ (b : Bool). b || among ps q) (same_no p q other)) ∙ e) in
-      let lt = one.within in
-      record { at = suc one.at; within = omega (arith, lt); is = one.is }
-]
-
-framed_here : (hs : List Held) (i q : ℕ) → i < length hs → page_at hs i ≡ q → framed_in hs q ≡ true
-framed_here [] i q lt is = absurd (omega (arith, lt))
-framed_here (h ∷ hs) zero q lt is = ap (λ (b : Bool). b || framed_in hs q) (same_yes h.page q is)
-framed_here (h ∷ hs) (suc i) q lt is = or_right (nat_eq h.page q) (framed_in hs q) (framed_here hs i q (omega (arith, lt)) is)
-
-lacks_none : (frames : List Held) (ps : List ℕ) → ((q : ℕ) → among ps q ≡ true → framed_in frames q ≡ true) → sum_by (lack frames) ps ≡ 0
-lacks_none frames [] all = refl
-lacks_none frames (p ∷ ps) all =
-    let a : lack frames p ≡ 0 = ap one_unless (all p (ap (λ (b : Bool). b || among ps p) (same_yes p p refl))) in
-    let rest : sum_by (lack frames) ps ≡ 0 = lacks_none frames ps (λ q e. all q (or_right (nat_eq p q) (among ps q) e)) in
-    let more = sum_by-cons (lack frames) p ps in
-    omega (arith, a, rest, more)
-
-among_more : (p : ℕ) (ps : List ℕ) (q : ℕ) → (among (distinct ps) q ≡ true → among ps q ≡ true) → (b : Bool) → among (cond b (distinct ps) (p ∷ distinct ps)) q ≡ true → among (p ∷ ps) q ≡ true
-among_more p ps q rest true e = or_right (nat_eq p q) (among ps q) (rest e)
-among_more p ps q rest false e = or_more (nat_eq p q) (among (distinct ps) q) (among ps q) rest e
-
-among_distinct : (ps : List ℕ) (q : ℕ) → among (distinct ps) q ≡ true → among ps q ≡ true
-among_distinct [] q e = e
-among_distinct (p ∷ ps) q e = among_more p ps q (among_distinct ps q) (among ps p) e
-
--- They can all be had where each page stands in a frame.
-pub had : {P : Type 0} (old : Pooled P) (forced : ℕ) (ps : List ℕ) → AreAllFramed old → AreOfStore old.sizes ps → CannotBeHad old forced ps → ⊥
-had old forced ps all of_store cannot =
-    let none : missing old.frames ps ≡ 0 = lacks_none old.frames (distinct ps) (λ q wanted.
-    let one = among_one ps q (among_distinct ps q wanted) in
-    let there = of_store one.at one.within in
-    let f = all (slice_index_or ps one.at 0) there.0 there.1 in
-    framed_here old.frames f.at q f.within (f.is ∙ one.is)) in
-    omega (arith, none, cannot)
-
--- ---- one page
-
-still_on : {P : Type 0} (old mid new : Pooled P) → IsStill old mid → IsStill mid new → IsStill old new
+pub still_on : {P : Type 0} (old mid new : Pooled P) → IsStill old mid → IsStill mid new → IsStill old new
 still_on old mid new a b = record { device = b.device ∙ a.device; sizes = b.sizes ∙ a.sizes; images = b.images ∙ a.images; changed = b.changed ∙ a.changed; apart = b.apart ∙ a.apart }
-
-stay_on : (ps : List ℕ) (old mid new : List Held) → StayFixed ps old mid → StayFixed ps mid new → StayFixed ps old new
-stay_on ps old mid new a b = record { to = λ q no f. b.to q no (a.to q no f); from = λ q no f. a.from q no (b.from q no f) }
-
-module _ (b : Bool) (ps : List ℕ) (old : List Held) (n : ℕ) (new : List Held) (one : among ps n ≡ true) (set : IsSetAt b old n new) where
-  abbrev pub seat : Held
-  seat = record { page = n; fixed = b }
-
-  length_is : length new ≡ length old
-  length_is = ap length set.now ∙ length-set old set.at seat
-
-  here_is : slice_index_or new set.at nothing_held ≡ seat
-  here_is = ap (λ (l : List Held). slice_index_or l set.at nothing_held) set.now ∙ get_or-set_same old set.at seat nothing_held set.within
-
-  other_is : (i : ℕ) → i ≢ set.at → slice_index_or new i nothing_held ≡ slice_index_or old i nothing_held
-  other_is i ne = ap (λ (l : List Held). slice_index_or l i nothing_held) set.now ∙ get_or-set_other old set.at i seat nothing_held ne
-
-  -- each other page is fixed where it was
-  stay_set : StayFixed ps old new
-  stay_set = record {
-    to = λ q no f. elim (cases_eq f.at set.at) [
-      | inl here ↦ absurd (true≢false (sym one ∙ ap (among ps) (sym set.is ∙ ap (page_at old) (sym here) ∙ f.is) ∙ no))
-      | inr other ↦ record {
-        at = f.at;
-        within = rw length_is f.within;
-        is = ap (λ (x : Held). x.page) (other_is f.at other) ∙ f.is;
-        fixed = ap (λ (x : Held). x.fixed) (other_is f.at other) ∙ f.fixed;
-      }
-    ];
-    from = λ q no f. elim (cases_eq f.at set.at) [
-      | inl here ↦
-          let is : n ≡ q = sym (ap (λ (x : Held). x.page) here_is) ∙ ap (page_at new) (sym here) ∙ f.is in
-          absurd (true≢false (sym one ∙ ap (among ps) is ∙ no))
-      | inr other ↦ record {
-        at = f.at;
-        within = rw (← length_is) f.within;
-        is = sym (ap (λ (x : Held). x.page) (other_is f.at other)) ∙ f.is;
-        fixed = sym (ap (λ (x : Held). x.fixed) (other_is f.at other)) ∙ f.fixed;
-      }
-    ];
-  }
-
--- ---- all of them
-
--- the first k of these pages are fixed in the frames in which they stand, or let go
-pub record AreSetTo {P : Type 0} (b : Bool) (old new : Pooled P) (ps : List ℕ) (k : ℕ) : Type 0 where
-  pub count : length new.frames ≡ length old.frames
-  pub each : (i j : ℕ) → i < length new.frames → j < k → page_at new.frames i ≡ slice_index_or ps j 0 → fixed_at new.frames i ≡ b
-  pub still : IsStill old new
-  pub stay : StayFixed ps old.frames new.frames
-
-pub set_first : {P : Type 0} (b : Bool) (old : Pooled P) (ps : List ℕ) → AreSetTo b old old ps 0
-set_first b old ps = record {
-  count = refl;
-  each = λ i j lt no is. absurd (omega (arith, no));
-  still = record { device = refl; sizes = refl; images = refl; changed = refl; apart = refl };
-  stay = record { to = λ q no f. f; from = λ q no f. f };
-}
-
-pub set_next : {P : Type 0} (b : Bool) (old mid new : Pooled P) (ps : List ℕ) (k : ℕ) → AreSetTo b old mid ps k → k < length ps → IsStill mid new → IsSetAt b mid.frames (slice_index_or ps k 0) new.frames → AreSetTo b old new ps (k + 1)
-set_next b old mid new ps k so_far lt still set =
-    let n = slice_index_or ps k 0 in
-    let one = among_at ps k lt in
-    record {
-      count = length_is b ps mid.frames n new.frames one set ∙ so_far.count;
-      each = λ i j within low is. elim (cases_eq i set.at) [
-        | inl here ↦ ap (fixed_at new.frames) here ∙ ap (λ (x : Held). x.fixed) (here_is b ps mid.frames n new.frames one set)
-        | inr other ↦
-            let same = other_is b ps mid.frames n new.frames one set i other in
-            let below : i < length mid.frames = rw (← length_is b ps mid.frames n new.frames one set) within in
-            let was : page_at mid.frames i ≡ slice_index_or ps j 0 = sym (ap (λ (x : Held). x.page) same) ∙ is in
-            elim (cases_eq j k) [
-              | inl last ↦ absurd (other (set.only i below (was ∙ ap (λ (m : ℕ). slice_index_or ps m 0) last)))
-              | inr earlier ↦ ap (λ (x : Held). x.fixed) same ∙ so_far.each i j below (omega (arith, low, earlier)) was
-            ]
-      ];
-      still = still_on old mid new so_far.still still;
-      stay = stay_on ps old.frames mid.frames new.frames so_far.stay (stay_set b ps mid.frames n new.frames one set);
-    }
-
-module _ {P : Type 0} (old new : Pooled P) (ps : List ℕ) (k : ℕ) (end : length ps ≤ k) where
-  -- all are let go
-  pub let_last : AreSetTo false old new ps k → NoneFixed ps new.frames
-  let_last so_far q wanted f =
-      let one = among_one ps q wanted in
-      let lt = one.within in
-      true≢false (sym f.fixed ∙ so_far.each f.at one.at f.within (omega (arith, lt, end)) (f.is ∙ sym one.is))
-
-  -- all are fixed, where each page stands in a frame
-  pub fix_last : AreSetTo true old new ps k → AreAllFramed new → AreOfStore new.sizes ps → (q : ℕ) → among ps q ≡ true → IsFixed new.frames q
-  fix_last so_far all of_store q wanted =
-      let one = among_one ps q wanted in
-      let lt = one.within in
-      let there = of_store one.at one.within in
-      let f = all (slice_index_or ps one.at 0) there.0 there.1 in
-      record { at = f.at; within = f.within; is = f.is ∙ one.is; fixed = so_far.each f.at one.at f.within (omega (arith, lt, end)) f.is }
 
 -- nothing but frames changed, so pages are kept up
 pub still_kept : {P : Type 0} (g : Ghosts P) (forced : ℕ) (old new : Pooled P) → IsStill old new → IsKeptUp g forced old new
 still_kept g forced old new still = kept_still g forced old new still.device still.sizes still.images still.changed
+
+pub stay_first : (ps : List ℕ) (frames : List Held) → StayFixed ps frames frames
+stay_first ps frames = record { to = λ q _ f. f; from = λ q _ f. f }
+
+pub stay_on : (ps : List ℕ) (old mid new : List Held) → StayFixed ps old mid → StayFixed ps mid new → StayFixed ps old new
+stay_on ps old mid new a b = record { to = λ q other f. b.to q other (a.to q other f); from = λ q other f. a.from q other (b.from q other f) }
+
+-- a frame has one of these pages then, and had it before, or one that was not fixed
+pub stay_set : (ps : List ℕ) (frames : List Held) (at n : ℕ) (b : Bool) → at < length frames → among ps n ≡ true → ((page_at frames at ≡ n) ⊎ (fixed_at frames at ≡ false)) → StayFixed ps frames (slice_set frames at (record { page = n; fixed = b }))
+stay_set ps frames at n b lt one before = record {
+  to = λ q away f. elim (cases_eq f.at at) [
+    | inl here ↦ ⊎_elim (λ is. absurd (true≢false (sym one ∙ ap (among ps) (sym is ∙ ap (page_at frames) (sym here) ∙ f.is) ∙ away)))
+        (λ free. absurd (true≢false (sym f.fixed ∙ ap (fixed_at frames) here ∙ free))) before
+    | inr other ↦ record {
+      at = f.at;
+      within = rw (length-set frames at seat) f.within;
+      is = ap (λ (x : Held). x.page) (same f.at other) ∙ f.is;
+      fixed = ap (λ (x : Held). x.fixed) (same f.at other) ∙ f.fixed;
+    }
+  ];
+  from = λ q away f. elim (cases_eq f.at at) [
+    | inl here ↦
+        let is : n ≡ q = sym (set_here frames at seat lt) ∙ ap (page_at (slice_set frames at seat)) (sym here) ∙ f.is in
+        absurd (true≢false (sym one ∙ ap (among ps) is ∙ away))
+    | inr other ↦ record {
+      at = f.at;
+      within = rw (← length-set frames at seat) f.within;
+      is = sym (ap (λ (x : Held). x.page) (same f.at other)) ∙ f.is;
+      fixed = sym (ap (λ (x : Held). x.fixed) (same f.at other)) ∙ f.fixed;
+    }
+  ];
+} where
+  seat : Held
+  seat = record { page = n; fixed = b }
+
+  same : (j : ℕ) → j ≢ at → slice_index_or (slice_set frames at seat) j nothing_held ≡ slice_index_or frames j nothing_held
+  same j ne = get_or-set_other frames at j seat nothing_held ne
+
+-- ---- all of them
+
+pub set_first : {P : Type 0} (b : Bool) (old : Pooled P) (ps : List ℕ) → AreSetTo b old old ps 0
+set_first b old ps = record {
+  count = refl;
+  same = λ i. refl;
+  each = λ i j lt none is. absurd (omega (arith, none));
+  still = still_first old;
+  stay = stay_first ps old.frames;
+  even = λ forced. refl;
+}
+
+module _ {P : Type 0} (b : Bool) (old mid new : Pooled P) (ps : List ℕ) (k : ℕ) (so_far : AreSetTo b old mid ps k) (lt : k < length ps) (still : IsStill mid new) where
+  abbrev pub n : ℕ
+  n = slice_index_or ps k 0
+
+  -- the next one stands in a frame
+  next_there : IsSetAt b mid.frames n new.frames → AreSetTo b old new ps (k + 1)
+  next_there set = record {
+    count = ap length set.now ∙ length-set mid.frames set.at seat ∙ so_far.count;
+    same = λ i. page i ∙ so_far.same i;
+    each = λ i j within low is. elim (cases_eq i set.at) [
+      | inl here ↦ ap (fixed_at new.frames) here ∙ ap (λ (l : List Held). fixed_at l set.at) set.now ∙ ap (λ (x : Held). x.fixed) (get_or-set_same mid.frames set.at seat nothing_held set.within)
+      | inr other ↦
+          let below : i < length mid.frames = rw (← length-set mid.frames set.at seat) (subst (λ (l : List Held). i < length l) set.now within) in
+          let was : page_at mid.frames i ≡ slice_index_or ps j 0 = sym (page i) ∙ is in
+          elim (cases_eq j k) [
+            | inl last ↦ absurd (other (set.only i below (was ∙ ap (λ (m : ℕ). slice_index_or ps m 0) last)))
+            | inr earlier ↦
+                ap (λ (l : List Held). fixed_at l i) set.now ∙ ap (λ (x : Held). x.fixed) (get_or-set_other mid.frames set.at i seat nothing_held other) ∙ so_far.each i j below (omega (arith, low, earlier)) was
+          ]
+    ];
+    still = still_on old mid new so_far.still still;
+    stay = stay_on ps old.frames mid.frames new.frames so_far.stay (subst (StayFixed ps mid.frames) (sym set.now) (stay_set ps mid.frames set.at n b set.within one (inl set.is)));
+    even = λ forced.
+        let two = stood_even mid.images forced ps mid.frames set.at n b set.within one set.is in
+        let x : missing new.frames ps ≡ missing mid.frames ps = ap (λ (l : List Held). missing l ps) set.now ∙ two.0 in
+        let y : spare_for new.images forced ps new.frames ≡ spare_for mid.images forced ps mid.frames =
+        ap (λ (l : List (List ℕ)). spare_for l forced ps new.frames) still.images ∙ ap (spare_for mid.images forced ps) set.now ∙ two.1 in
+        let e : AreEven old forced ps mid = so_far.even forced in
+        omega (arith, x, y, e);
+  } where
+    seat : Held
+    seat = record { page = n; fixed = b }
+
+    one : among ps n ≡ true
+    one = among_at ps k lt
+
+    page : (i : ℕ) → page_at new.frames i ≡ page_at mid.frames i
+    page i = elim (cases_eq i set.at) [
+      | inl here ↦ ap (page_at new.frames) here ∙ ap (λ (l : List Held). page_at l set.at) set.now ∙ set_here mid.frames set.at seat set.within ∙ sym set.is ∙ ap (page_at mid.frames) (sym here)
+      | inr other ↦ ap (λ (l : List Held). page_at l i) set.now ∙ set_page mid.frames set.at seat i other
+    ]
+
+  -- or in none
+  next_nowhere : (IsFramed mid.frames n → ⊥) → new.frames ≡ mid.frames → AreSetTo b old new ps (k + 1)
+  next_nowhere out frames = record {
+    count = ap length frames ∙ so_far.count;
+    same = λ i. ap (λ (l : List Held). page_at l i) frames ∙ so_far.same i;
+    each = λ i j within low is.
+        let below : i < length mid.frames = subst (λ (l : List Held). i < length l) frames within in
+        let was : page_at mid.frames i ≡ slice_index_or ps j 0 = ap (λ (l : List Held). page_at l i) (sym frames) ∙ is in
+        elim (cases_eq j k) [
+          | inl last ↦ absurd (out (record { at = i; within = below; is = was ∙ ap (λ (m : ℕ). slice_index_or ps m 0) last }))
+          | inr earlier ↦ ap (λ (l : List Held). fixed_at l i) frames ∙ so_far.each i j below (omega (arith, low, earlier)) was
+        ];
+    still = still_on old mid new so_far.still still;
+    stay = subst (StayFixed ps old.frames) (sym frames) so_far.stay;
+    even = λ forced.
+        let x : missing new.frames ps ≡ missing mid.frames ps = ap (λ (l : List Held). missing l ps) frames in
+        let y : spare_for new.images forced ps new.frames ≡ spare_for mid.images forced ps mid.frames =
+        ap (λ (l : List (List ℕ)). spare_for l forced ps new.frames) still.images ∙ ap (spare_for mid.images forced ps) frames in
+        let e : AreEven old forced ps mid = so_far.even forced in
+        omega (arith, x, y, e);
+  }
+
+  pub set_next : IsSetIn b mid.frames n new.frames → AreSetTo b old new ps (k + 1)
+  set_next set = ⊎_elim next_there (λ (t : (IsFramed mid.frames n → ⊥) × (new.frames ≡ mid.frames)). next_nowhere t.0 t.1) set
+
+-- all are let go
+pub let_last : {P : Type 0} (old new : Pooled P) (ps : List ℕ) → AreSetTo false old new ps (length ps) → NoneFixed ps new.frames
+let_last old new ps all q wanted f =
+    let one = among_one ps q wanted in
+    true≢false (sym f.fixed ∙ all.each f.at one.at f.within one.within (f.is ∙ sym one.is))
+
+-- all that stand in frames are fixed there
+pub held_last : {P : Type 0} (old new : Pooled P) (ps : List ℕ) → AreSetTo true old new ps (length ps) → AreHeld ps new.frames
+held_last old new ps all i within e =
+    let one = among_one ps (page_at new.frames i) e in
+    all.each i one.at within one.within (sym one.is)
+
+-- they stand where they stood
+pub framed_then : {P : Type 0} (b : Bool) (old new : Pooled P) (ps : List ℕ) (k : ℕ) (q : ℕ) → AreSetTo b old new ps k → IsFramed old.frames q → IsFramed new.frames q
+framed_then b old new ps k q set f = record { at = f.at; within = rw set.count f.within; is = set.same f.at ∙ f.is }
+
+pub framed_before : {P : Type 0} (b : Bool) (old new : Pooled P) (ps : List ℕ) (k : ℕ) (q : ℕ) → AreSetTo b old new ps k → IsFramed new.frames q → IsFramed old.frames q
+framed_before b old new ps k q set f = record { at = f.at; within = rw (← set.count) f.within; is = sym (set.same f.at) ∙ f.is }

@@ -1,5 +1,5 @@
 -- What keeps pages up: no call of their device, and a write of one.
-use Rattle.std.proofs.Common.{◌≡◌, refl, ℕ, ◌≤◌, ◌==◌, Bool, true, false, List, slice_set, sym, ap, subst, arith, ◌∙◌, inl, inr, ⊎_elim, Result, Ok, Err}
+use Rattle.std.proofs.Common.{◌≡◌, ◌≢◌, refl, ℕ, ◌≤◌, ◌==◌, Bool, true, false, List, slice_set, sym, ap, subst, arith, ◌∙◌, inl, inr, ⊎_elim, Result, Ok, Err}
 use Rattle.std.proofs.lemmas.Bool.{cases_Bool, cases_eq, cond-true, eq-eqb, true≢false}
 use Rattle.std.proofs.lemmas.List.{get_or-set_other}
 use Rattle.rq_disk.specs.Device.{Leaves, Elapses}
@@ -11,6 +11,7 @@ use Rattle.rq_page.specs.Sizes.{Sizes}
 use Rattle.rq_views.specs.Stored.{slots_in}
 use Rattle.rq_pool.specs.Indexed.{AreFlaggedAlike, closed_flag, free_flag}
 use Rattle.rq_pool.specs.Pooled.{Pooled, image_at, is_changed}
+use Rattle.rq_pool.specs.Reading.{OnlyRead}
 use Rattle.rq_pool.specs.Writing.{AnswersWhen, DeviceAfter, MayHaveWritten, changed_after}
 use Rattle.rq_pool.specs.declared.Written.{Written}
 use Rattle.rq_pool.specs.declared.Written.TheVariants.{Done, Nothing}
@@ -37,6 +38,27 @@ module _ {P : Type 0} (g : Ghosts P) (forced : ℕ) where
     crash = λ p c. subst (λ (d : P). g.may_be d p c → MayBeKept g forced old p c) (sym device) (λ may. inl may);
     time = subst (λ (d : P). Elapses (g.moment old.device) (g.moment d) (g.left_since old.device) (g.left_since d) (Leaves (MayBeKept g forced old))) (sym device)
         (record { later = omega arith; nothing_else = λ t c before since. inl since; keeps = λ t c before past. past });
+  }
+
+  -- a page was read that was not changed, and no other image changed
+  pub kept_read : (old new : Pooled P) → OnlyRead g old.device new.device → new.sizes ≡ old.sizes → (g.honest new.device → new.images ≡ old.images) → AreFlaggedAlike old.sizes old.images new.images → new.changed ≡ old.changed
+      → (n : ℕ) → is_changed old.changed n ≡ false → ((p : ℕ) → p ≢ n → image_at new.images p ≡ image_at old.images p) → IsKeptUp g forced old new
+  kept_read old new read sizes images flags changed n clean others = record {
+    sizes = sizes;
+    images = images;
+    flags = flags;
+    changed = λ p c.
+        let was : is_changed old.changed p ≡ true = ap (λ (l : List Bool). is_changed l p) (sym changed) ∙ c in
+        record { was = was; same = others p (λ e. true≢false (sym was ∙ ap (is_changed old.changed) e ∙ clean)) };
+    written = λ p was is. absurd (true≢false (sym was ∙ ap (λ (l : List Bool). is_changed l p) (sym changed) ∙ is));
+    others = λ p _. ap (λ (s : ℕ → List ℕ). s p) read.same;
+    honest = read.honest;
+    crash = λ p c may. inl (read.crash p c may);
+    time = record {
+      later = read.time.later;
+      nothing_else = λ t c le left. ⊎_elim (λ was. inl was) (λ now. inr (λ p. inl (now p))) (read.time.nothing_else t c le left);
+      keeps = read.time.keeps;
+    };
   }
 
   -- a page whose LSN is forced was written, or was to be

@@ -22,7 +22,7 @@ module _ (images new : List (List ℕ)) (n : ℕ) (page : List ℕ) (grown : new
   pub earlier : (p : ℕ) → p < n → image_at new p ≡ image_at images p
   earlier p lt = ap (λ (l : List (List ℕ)). image_at l p) grown ∙ get_or_append_left images (page ∷ []) [] p (omega (arith, lt, count))
 
-  here : image_at new n ≡ page
+  pub here : image_at new n ≡ page
   here = ap (λ (l : List (List ℕ)). image_at l n) grown ∙ ap (image_at (images ++ page ∷ [])) (sym count) ∙ get_or-append_seam images page [] []
 
   pub seen_more : (seen : Images) → AreSeen seen images n → page ≡ seen n → AreSeen seen new (n + 1)

@@ -1,15 +1,16 @@
 -- What reading a page of a store again may do.
-use Rattle.std.specs.Prelude.{◌≡◌, ◌≢◌, ◌⊎◌, ℕ, ◌+◌, ◌%◌, ◌^◌, ◌<◌, ◌≤◌, Some, Result, Err, IsOk, IfErr, OnOk}
+use Rattle.std.specs.Prelude.{◌≡◌, ◌≢◌, ◌⊎◌, ℕ, ◌+◌, ◌%◌, ◌^◌, ◌<◌, ◌≤◌, List, Some, Result, Err, IsOk, IfErr, OnOk}
 use Rattle.rq_model.specs.declared.refusal.Refusal.{Refusal}
 use Rattle.rq_model.specs.declared.refusal.Refusal.TheVariants as why
 use Rattle.rq_model.specs.declared.refusal.Damage.TheVariants as damage
 use Rattle.rq_disk.specs.Device.{PageAsk}
 use Rattle.rq_disk.specs.Device.PageAsk.{Reads}
 use Rattle.rq_disk.specs.declared.device.PageDevice.{Ghosts}
-use Rattle.rq_page.specs.Sizes.{page_count}
+use Rattle.rq_page.specs.Sizes.{Sizes, page_count}
 use Rattle.rq_pool.specs.Pooled.{Pooled, image_at}
 use Rattle.rq_pool.specs.Held.{IsFramed}
-use Rattle.rq_pool.specs.Reading.{OnlyRead}
+use Rattle.rq_pool.specs.Indexed.{AreNotedOn, closed_groups, free_cells}
+use Rattle.rq_pool.specs.Reading.{IsSoundPage, OnlyRead}
 use Rattle.rq_pool.specs.KeptUp.{IsKeptUp}
 
 -- the page stands in a frame, or apart
@@ -49,6 +50,16 @@ pub record HasFailed {P : Type 0} (g : Ghosts P) (ask : PageAsk) (old new : P) :
   pub before : P
   pub none : g.faults before ≡ g.faults old
   pub excused : g.excuse ask before new
+
+-- Why a page was not read once more: its device failed in that, or gave bytes that are no page of the store, or not one that the
+-- indexes tell of.
+abbrev pub NotReadAgain : {P : Type 0} → Ghosts P → Sizes → (free closed : List ℕ) → ℕ → Refusal → P → P → Type 0
+NotReadAgain g z free closed page why.DiskRead old new = HasFailed g (Reads page) old new
+NotReadAgain g z free closed page (why.Damaged (damage.Page n)) old new = (n ≡ page)
+    × (g.honest new → IsSoundPage z page (g.seen old page) → AreNotedOn (free_cells z) z page (g.seen old page) free
+    → AreNotedOn (closed_groups z) z page (g.seen old page) closed → ⊥)
+    × (g.faults new ≡ g.faults old)
+NotReadAgain g z free closed page _ old new = ⊥
 
 -- why a page was not read: its device failed in that, or is not honest
 abbrev pub NotFetched : {P : Type 0} → Ghosts P → ℕ → Refusal → P → P → Type 0

@@ -1,40 +1,96 @@
--- Pages in frames: their images, which of them were changed, and where they stand.
-use Rattle.std.specs.Prelude.{◌≡◌, ℕ, suc, ◌≢◌, Bool, true, false, List, [], ◌∷◌, map, slice_index_or}
+-- The table of pages, the frames, and how they agree.
+use Rattle.std.specs.Prelude.{◌≡◌, ℕ, suc, ◌<◌, ◌≤◌, Bool, true, List, [], ◌∷◌, length, map, slice_index_or, Option, None, Some}
+use Rattle.rq_pool.specs.declared.Entry.{Entry}
 use Rattle.rq_pool.specs.declared.Frame.{Frame}
-use Rattle.rq_pool.specs.Pooled.{image_at}
-use Rattle.rq_pool.specs.Held.{Held}
+use Rattle.rq_pool.specs.Pooled.{image_at, is_changed}
+use Rattle.rq_pool.specs.Held.{Held, fixed_at, page_at}
 
-abbrev pub image_of : Frame → List ℕ
-image_of frame = frame.page
+-- ---- the table
 
-abbrev pub images_of : List Frame → List (List ℕ)
-images_of frames = map image_of frames
+abbrev pub image_of : Entry → List ℕ
+image_of entry = entry.image.value
 
--- the image of the page in a frame, by its number
-abbrev pub framed_at : List Frame → ℕ → List ℕ
-framed_at frames page = image_at (images_of frames) page
+abbrev pub images_of : List Entry → List (List ℕ)
+images_of entries = map image_of entries
 
-abbrev pub was_changed : Frame → Bool
-was_changed frame = frame.changed
+abbrev pub was_changed : Entry → Bool
+was_changed entry = entry.changed
 
-abbrev pub changed_of : List Frame → List Bool
-changed_of frames = map was_changed frames
+abbrev pub changed_of : List Entry → List Bool
+changed_of entries = map was_changed entries
 
-abbrev pub is_fixed : Frame → Bool
-is_fixed frame = frame.fixed
+-- the frame in which a page stands
+abbrev pub place_in : Entry → Option ℕ
+place_in entry = entry.place
 
-abbrev pub fixed_of : List Frame → List Bool
-fixed_of frames = map is_fixed frames
+abbrev pub places_of : List Entry → List (Option ℕ)
+places_of entries = map place_in entries
+
+abbrev pub place_at : List (Option ℕ) → ℕ → Option ℕ
+place_at places page = slice_index_or places page None
+
+-- ---- the frames
+
+abbrev pub held_of : Frame → Held
+held_of frame = record { page = frame.number; fixed = frame.fixed }
+
+abbrev pub frames_of : List Frame → List Held
+frames_of frames = map held_of frames
+
+abbrev pub page_in : Frame → List ℕ
+page_in frame = frame.page
+
+abbrev pub pages_of : List Frame → List (List ℕ)
+pages_of frames = map page_in frames
+
+-- the bytes in a frame
+abbrev pub bytes_at : List (List ℕ) → ℕ → List ℕ
+bytes_at pages i = slice_index_or pages i []
 
 -- Frames that are fixed so, the first of them with page p, each other with the page behind the one before.
 abbrev pub in_order : ℕ → List Bool → List Held
 in_order p [] = []
 in_order p (fixed ∷ more) = record { page = p; fixed = fixed } ∷ in_order (suc p) more
 
--- the superblock is fixed in its frame
-abbrev pub IsFirstFixed : List Bool → Type 0
-IsFirstFixed fixed = slice_index_or fixed 0 false ≡ true
+-- the superblock is fixed in the first frame
+pub record IsFirstFixed (frames : List Held) : Type 0 where
+  pub page : page_at frames 0 ≡ 0
+  pub fixed : fixed_at frames 0 ≡ true
 
--- and no other page is fixed in any
-abbrev pub IsFirstAlone : List Bool → Type 0
-IsFirstAlone fixed = (i : ℕ) → i ≢ 0 → slice_index_or fixed i false ≡ false
+-- ---- how they agree
+
+-- this page stands in this frame, as its image
+pub record StandsThere (images : List (List ℕ)) (frames : List Held) (pages : List (List ℕ)) (p i : ℕ) : Type 0 where
+  pub within : i < length frames
+  pub page : page_at frames i ≡ p
+  pub bytes : bytes_at pages i ≡ image_at images p
+
+-- the frame has a page of the store, whose entry names it
+pub record HasPage (places : List (Option ℕ)) (frames : List Held) (i : ℕ) : Type 0 where
+  pub high : page_at frames i < length places
+  pub back : place_at places (page_at frames i) ≡ Some i
+
+-- Table and frames agree: an entry names the frame of its page, each frame has a page whose entry names it, and a page that was
+-- changed stands in one.
+pub record AreTied (images : List (List ℕ)) (changed : List Bool) (places : List (Option ℕ)) (frames : List Held)
+    (pages : List (List ℕ)) : Type 0 where
+  pub count : length places ≡ length images
+  pub same : length pages ≡ length frames
+  pub few : length frames ≤ length images
+  pub there : (p i : ℕ) → place_at places p ≡ Some i → StandsThere images frames pages p i
+  pub back : (i : ℕ) → i < length frames → HasPage places frames i
+  pub framed : (p : ℕ) → is_changed changed p ≡ true → place_at places p ≡ None → ⊥
+
+-- the page that was read apart stands in no frame
+pub record IsApart (images : List (List ℕ)) (places : List (Option ℕ)) (p : ℕ) (bytes : List ℕ) : Type 0 where
+  pub high : p < length images
+  pub none : place_at places p ≡ None
+  pub is : bytes ≡ image_at images p
+
+abbrev pub MayBeApart : List (List ℕ) → List (Option ℕ) → Option ℕ → List ℕ → Type 0
+MayBeApart images places None bytes = Unit {0}
+MayBeApart images places (Some p) bytes = IsApart images places p bytes
+
+-- each page stands in a frame
+abbrev pub AllStand : List (Option ℕ) → Type 0
+AllStand places = (p : ℕ) → p < length places → place_at places p ≡ None → ⊥

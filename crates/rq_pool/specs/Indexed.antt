@@ -1,8 +1,9 @@
 -- Indexes of slots: of the cells that are free, and of the groups that are closed.
-use Rattle.std.specs.Prelude.{◌≡◌, ℕ, ◌*◌, ◌<◌, ◌≤◌, Bool, cond, List, length}
+use Rattle.std.specs.Prelude.{◌≡◌, ℕ, ◌*◌, ◌/◌, ◌%◌, ◌<◌, ◌≤◌, Bool, cond, List, length}
 use Rattle.rq_bitset.specs.Flags.{flag_at}
 use Rattle.rq_page.specs.Sizes.{Sizes, cell_count, cell_at, directory_at, sender_count}
-use Rattle.rq_page.specs.Slots.{Slot}
+use Rattle.rq_page.specs.Pages.{slot_of}
+use Rattle.rq_page.specs.Slots.{Slot, held_in}
 use Rattle.rq_page.specs.Slots.Slot.{Sender}
 use Rattle.rq_page.specs.declared.directory.Directory.{Directory}
 use Rattle.rq_views.specs.Stored.{slots_in, is_used}
@@ -36,6 +37,14 @@ AreFlaggedAlike z old new = (a : ℕ) → (free_flag (slots_in z new a) ≡ free
 -- the flag at a place is that of what stands there
 abbrev pub IsNoted : Indexed → Sizes → List (List ℕ) → List ℕ → ℕ → Type 0
 IsNoted x z images flags k = flag_at flags k ≡ x.flag (slots_in z images (x.at k))
+
+-- the same, where these are the bytes of the page on which it stands
+abbrev pub IsNotedOn : Indexed → Sizes → List ℕ → List ℕ → ℕ → Type 0
+IsNotedOn x z page flags k = flag_at flags k ≡ x.flag (held_in z (x.at k / 16) (slot_of (x.at k % 16) page))
+
+-- the flags of all that stands on a page with these bytes are
+abbrev pub AreNotedOn : Indexed → Sizes → ℕ → List ℕ → List ℕ → Type 0
+AreNotedOn x z number page flags = (k : ℕ) → k < x.count → x.at k / 16 ≡ number → IsNotedOn x z page flags k
 
 -- every flag is, and none beyond is set
 pub record IsIndex (x : Indexed) (z : Sizes) (images : List (List ℕ)) (flags : List ℕ) : Type 0 where

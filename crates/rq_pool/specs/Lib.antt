@@ -7,3 +7,4 @@ pub mod Writing
 pub mod KeptUp
 pub mod Fetching
 pub mod Want
+pub mod Fixing

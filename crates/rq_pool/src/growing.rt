@@ -3,7 +3,7 @@ ghost use Rattle.std.specs.Prelude.{◌≡◌, ◌≢◌, ◌<◌, ◌≤◌, �
 ghost use Rattle.rq_page.specs.Sizes.{page_count};
 ghost use Rattle.rq_pool.specs.Writing.{IsFormattedAfter};
 
-use crate::frames::mark;
+use crate::table::mark;
 use crate::{Pages, formatting};
 use rq_disk::{PAGE, PageDevice};
 use rq_model::refusal::Refusal;
@@ -37,7 +37,7 @@ impl<P: PageDevice> Pages<P> {
         ensures device { IsFormattedAfter P.PageDevice grown.now 0 self.old.device self.new.device result }
         ensures err { IfErr result (λ r. r ≡ Refusal.DiskWrite) }
     {
-        mark(&mut self.frames, 0, true);
+        mark(&mut self.entries, 0, true);
         write_page(&mut self.device, grown, 0)
     }
 }

@@ -1,4 +1,4 @@
-//! The pages of the store, all of them in memory, over their device.
+//! The pages of the store, over their device: some stand in frames, each other one on the device alone.
 #![tactic(auto)]
 
 ghost use Rattle.std.specs.Prelude.{◌≡◌, ◌≢◌, ◌↔◌, ◌<◌, ◌≤◌, ◌+◌, ◌/◌, ◌%◌, ℕ, true, false, Err, Ok, IsSome, IsTrue, IfSome, IfNone, IfErr, IfOk, OnOk, length, replicate, slice_set};
@@ -14,40 +14,57 @@ ghost use Rattle.rq_level.specs.Meaning.{AppliesOnce, redo_of};
 ghost use Rattle.rq_pool.specs.Pooled.{IsPool, image_at, is_changed};
 ghost use Rattle.rq_pool.specs.Indexed.{TellsClosed};
 
+mod fetching;
 mod fixing;
 pub mod formatting;
 mod frames;
 mod growing;
 mod notes;
 mod reading;
+mod table;
+mod writing;
 
-use crate::frames::{mark, redo_frame, write_slot};
+use crate::frames::{redo_frame, write_slot};
 use crate::notes::{note_cell, note_group};
 use crate::reading::{read_frames, read_superblock};
+use crate::table::{mark, set_image, was_changed};
+use crate::writing::write;
 use rq_bitset::Index;
-use rq_disk::PageDevice;
+use rq_disk::{PAGE, PageDevice};
 use rq_level::{Level, Levels};
 use rq_model::record::{Record, Slot};
 use rq_model::refusal::Refusal;
 use rq_model::txn::Lsn;
 use rq_page::addr::Addr;
-use rq_page::cell::{Cell, CellSlot};
+use rq_page::cell::Cell;
 use rq_page::client::ClientSlot;
-use rq_page::directory::{Directory, DirectorySlot};
+use rq_page::directory::Directory;
 use rq_page::layout::Layout;
 use rq_page::page::Page;
 use std::alloc::Global;
 use std::marker::Model;
+use std::snapshot::Snapshot;
 
-/// A page in memory.
+/// A page of the store, in the table of pages.
 #[derive(Drop)]
-pub struct Frame {
-    /// The page.
-    pub page: Page,
+pub struct Entry {
+    /// Its image, as contracts alone see it.
+    pub image: Snapshot<Page>,
     /// Whether it was changed since it was read or written.
     pub changed: bool,
+    /// The frame in which it stands.
+    pub place: Option<u32>,
+}
+
+/// A frame: a page in memory.
+#[derive(Drop)]
+pub struct Frame {
+    /// The number of the page.
+    pub number: u32,
     /// Whether an operation has fixed it.
     pub fixed: bool,
+    /// The page.
+    pub page: Page,
 }
 
 /// What was done for a page that was to be written.
@@ -59,14 +76,22 @@ pub enum Written {
     Nothing,
 }
 
-/// Every page of the store, by number. Contracts see the device, the sizes, the images, of each page whether it was
-/// changed since it was read or written, which page stands in each frame, and whether it is fixed there. Here each stands in the
-/// frame of its number; by contract of a read (`look`) one may stand in none. The superblock is fixed in its frame for good.
+/// The pages of a store. Contracts see the device, the sizes, the images of all pages, of each whether it was changed since it was
+/// read or written, which page stands in each frame and whether it is fixed there, and which one stands apart from them, as it was
+/// read last. Here each page stands in a frame; by contract of a read (`look`) one may stand in none. The superblock is fixed in its
+/// frame for good.
 #[derive(Drop)]
 pub struct Pages<P: PageDevice> {
     device: P,
     layout: Layout,
+    // The table, by the numbers of pages.
+    entries: Vec<Entry>,
     frames: Vec<Frame>,
+    // The frame in which a page was put last. From there on another is looked for.
+    hand: u32,
+    // The page that stands apart, and its bytes.
+    apart: Option<u32>,
+    spare: Page,
     // The places of the free cells among the cells.
     free: Index,
     // The senders whose groups are closed.
@@ -75,25 +100,29 @@ pub struct Pages<P: PageDevice> {
 
 impl<P: PageDevice> Model for Pages<P> {
     ghost use Rattle.rq_pool.specs.Pooled.{Pooled, AreOver};
-    ghost use Rattle.rq_pool.specs.Frames.{IsFirstFixed, changed_of, fixed_of, images_of, in_order};
+    ghost use Rattle.rq_pool.specs.Frames.{AllStand, AreTied, IsFirstFixed, MayBeApart, changed_of, frames_of, images_of, pages_of, places_of};
     ghost use Rattle.rq_pool.specs.Indexed.{IsIndex, closed_groups, free_cells};
-    ghost use Rattle.std.specs.Prelude.{None, length};
 
     ghost Value = { Pooled P };
 
     ghost view = { λ p. record {
       device = p.device;
       sizes = p.layout;
-      images = images_of p.frames.items;
-      changed = changed_of p.frames.items;
-      frames = in_order 0 (fixed_of p.frames.items);
-      apart = None;
+      images = images_of p.entries.items;
+      changed = changed_of p.entries.items;
+      frames = frames_of p.frames.items;
+      apart = p.apart;
     } };
 
-    ghost invariant = { λ p. AreOver P.PageDevice p.device p.layout (images_of p.frames.items)
-        (changed_of p.frames.items) × IsIndex (free_cells p.layout) p.layout (images_of p.frames.items) p.free
-        × IsIndex (closed_groups p.layout) p.layout (images_of p.frames.items) p.closed
-        × IsFirstFixed (fixed_of p.frames.items) };
+    // The last part is so for now: no page stands outside.
+    ghost invariant = { λ p. AreOver P.PageDevice p.device p.layout (images_of p.entries.items)
+        (changed_of p.entries.items) × IsIndex (free_cells p.layout) p.layout (images_of p.entries.items) p.free
+        × IsIndex (closed_groups p.layout) p.layout (images_of p.entries.items) p.closed
+        × IsFirstFixed (frames_of p.frames.items)
+        × AreTied (images_of p.entries.items) (changed_of p.entries.items) (places_of p.entries.items)
+        (frames_of p.frames.items) (pages_of p.frames.items)
+        × MayBeApart (images_of p.entries.items) (places_of p.entries.items) p.apart p.spare
+        × AllStand (places_of p.entries.items) };
 }
 
 /// Pages that could not be had: why, and their device.
@@ -114,7 +143,6 @@ impl<P: PageDevice + Drop> Pages<P> {
     /// # Errors
     /// `DiskRead`; `Damaged` with the number of the first page that is none of a store's; `NoMemory`, where the superblock
     /// tells the sizes.
-    #[tactic(auto, using(crate::proofs::Over::over_loaded))]
     pub fn load(alloc: Global, mut device: P) -> Result<Pages<P>, RefusedPages<P>>
         ensures pages { IfOk result (λ pages. ArePages pages.sizes pages.images) }
         ensures seen { IfOk result (λ pages. P.honest pages.device
@@ -130,10 +158,14 @@ impl<P: PageDevice + Drop> Pages<P> {
             Err(refusal) => return Err(RefusedPages { refusal, device }),
         };
         match read_frames(alloc, &mut device, &layout, superblock) {
-            Ok((frames, free, closed)) => Ok(Pages {
+            Ok((entries, frames, free, closed)) => Ok(Pages {
                 device,
                 layout,
+                entries,
                 frames,
+                hand: 0,
+                apart: None,
+                spare: Page::from_image(&[0; PAGE]),
                 free,
                 closed,
             }),
@@ -148,7 +180,11 @@ impl<P: PageDevice + Drop> Pages<P> {
         let Pages {
             device,
             layout: _,
+            entries: _,
             frames: _,
+            hand: _,
+            apart: _,
+            spare: _,
             free: _,
             closed: _,
         } = self;
@@ -158,9 +194,9 @@ impl<P: PageDevice + Drop> Pages<P> {
 
 impl<P: PageDevice> Pages<P> {
     ghost use Rattle.rq_pool.specs.Writing.{AnswersWhen, DeviceAfter, HasChangeBeyond, IsRedoAt, IsUnwritten, MayHaveSynced, NoChangeBeyond, changed_after};
-    ghost use Rattle.rq_pool.specs.Held.{IsFixed, StandOnce};
+    ghost use Rattle.rq_pool.specs.Held.{IsFixed, IsFramed, StandOnce};
     ghost use Rattle.rq_pool.specs.Pooled.{AreOver};
-    ghost use Rattle.rq_pool.specs.Fetching.{AreAllFramed, Fetches, IsAtHand};
+    ghost use Rattle.rq_pool.specs.Fetching.{AreAllFramed};
 
     /// What is so of the pages of each store, for proofs: it runs no code. Where the device has been honest, each page
     /// that doesn't count as changed reads there as its image.
@@ -198,10 +234,12 @@ impl<P: PageDevice> Pages<P> {
         ensures known { IsSome result ↔ (number < page_count self.now.sizes) }
         ensures image { IfSome result (λ page. page.now ≡ image_at self.now.images number) }
     {
-        match self.frames.get(number as usize) {
-            Some(frame) => Some(&frame.page),
-            None => None,
+        if number >= self.layout().pages() {
+            return None;
         }
+        self.shows_framed();
+        self.shows_frames();
+        Some(self.at_hand(number))
     }
 
     /// What stands at an address of a page behind the first; none where the store has no such slot.
@@ -214,7 +252,8 @@ impl<P: PageDevice> Pages<P> {
         if page == 0 || page >= self.layout().pages() as u64 || at.slot() == 0 {
             return None;
         }
-        Some(self.slot_bytes(at))
+        self.shows_framed();
+        Some(self.slot_at_hand(at))
     }
 
     /// Writes a slot, by the record of this LSN.
@@ -232,9 +271,16 @@ impl<P: PageDevice> Pages<P> {
         ensures frames { (self.new.frames ≡ self.old.frames) × (self.new.apart ≡ self.old.apart) }
         ensures pool { IsPool self.new.sizes self.new.images }
     {
-        write_slot(&mut self.frames, at, image, lsn);
-        note_cell(&mut self.free, &self.layout, &self.frames, at);
-        note_group(&mut self.closed, &self.layout, &self.frames, at);
+        self.shows_framed();
+        let _layout = self.layout();
+        let number = at.page() as u32;
+        let place = self.place(number);
+        write_slot(&mut self.frames, place, at.slot(), image, lsn);
+        let page = &self.frames[place as usize].page;
+        set_image(&mut self.entries, number, page);
+        mark(&mut self.entries, number, true);
+        note_cell(&mut self.free, &self.layout, page, at);
+        note_group(&mut self.closed, &self.layout, page, at);
     }
 
     /// Has the level of single slots apply a record to its page, where the page is older. The record writes the slot at this
@@ -259,10 +305,17 @@ impl<P: PageDevice> Pages<P> {
         ensures device { self.new.device ≡ self.old.device }
         ensures frames { (self.new.frames ≡ self.old.frames) × (self.new.apart ≡ self.old.apart) }
     {
-        let made = redo_frame(&mut self.frames, levels, at.page(), lsn, record);
+        self.shows_framed();
+        let _layout = self.layout();
+        let number = at.page() as u32;
+        let place = self.place(number);
+        let made = redo_frame(&mut self.frames, levels, place, lsn, record);
         if made {
-            note_cell(&mut self.free, &self.layout, &self.frames, at);
-            note_group(&mut self.closed, &self.layout, &self.frames, at);
+            let page = &self.frames[place as usize].page;
+            set_image(&mut self.entries, number, page);
+            mark(&mut self.entries, number, true);
+            note_cell(&mut self.free, &self.layout, page, at);
+            note_group(&mut self.closed, &self.layout, page, at);
         }
         made
     }
@@ -273,7 +326,6 @@ impl<P: PageDevice> Pages<P> {
     /// # Errors
     /// `NotForced` where the page's LSN is over `forced`: nothing changed. `DiskWrite` where the device failed:
     /// the page still counts as changed.
-    #[tactic(auto, using(crate::proofs::Over::over_written, crate::proofs::Over::over_failed))]
     pub fn write_back(&mut self, page: u32, forced: Lsn) -> Result<Written, Refusal>
         ensures answer { AnswersWhen self.old page forced result }
         ensures changed { self.new.changed ≡ changed_after self.old.changed page result }
@@ -285,22 +337,29 @@ impl<P: PageDevice> Pages<P> {
         ensures excused { result ≡ Err Refusal.DiskWrite
             → P.excuse (Writes page (image_at self.old.images page)) self.old.device self.new.device }
     {
-        let Some(frame) = self.frames.get(page as usize) else {
-            return Ok(Written::Nothing);
-        };
-        if !frame.changed {
+        if page >= self.layout.pages() || !was_changed(&self.entries, page) {
             return Ok(Written::Nothing);
         }
+        self.shows_changed();
+        let place = self.place(page);
+        let frame = &self.frames[place as usize];
         if frame.page.lsn() > forced {
             return Err(Refusal::NotForced);
         }
-        match self.device.write(page, frame.page.image()) {
+        match write(&mut self.device, page, &frame.page) {
             Ok(()) => {
-                mark(&mut self.frames, page, false);
+                mark(&mut self.entries, page, false);
                 Ok(Written::Done)
             }
-            Err(_) => Err(Refusal::DiskWrite),
+            Err(refusal) => Err(refusal),
         }
+    }
+
+    // Each page that was changed stands in a frame, for proofs: it runs no code.
+    fn shows_changed(&self)
+        ensures { (p : ℕ) → is_changed self.now.changed p ≡ true → IsFramed self.now.frames p }
+    {
+        let _layout = self.layout;
     }
 
     /// Whether some page behind the superblock has a change that was not written, by a record behind this LSN.
@@ -318,59 +377,13 @@ impl<P: PageDevice> Pages<P> {
 
     // Whether the page has such a change.
     fn is_beyond(&self, page: u32, lsn: Lsn) -> bool
+        requires { page < page_count self.now.sizes }
         ensures beyond { IsTrue result → IsUnwritten self.now page × (lsn < lsn_of (image_at self.now.images page)) }
         ensures within { OnFalse result (is_changed self.now.changed page ≡ true
             → lsn_of (image_at self.now.images page) ≤ lsn) }
     {
-        match self.frames.get(page as usize) {
-            Some(frame) => frame.changed && frame.page.lsn() > lsn,
-            None => false,
-        }
-    }
-
-    /// Has a page be at hand, in a frame or apart. What stands in no frame is read.
-    ///
-    /// # Errors
-    /// `DiskRead`; `Damaged`, where the device has lied and gave no page of a store.
-    #[inline(always)]
-    pub fn look(&mut self, number: u32) -> Result<(), Refusal>
-        requires low { 1 ≤ number }
-        requires high { number < page_count self.old.sizes }
-        ensures { Fetches P.PageDevice number self.old result self.new }
-    {
-        self.shows_framed();
-        Ok(())
-    }
-
-    /// Has the page of a slot be at hand, as `look` does. Whether the store has such a slot; nothing happens where it has none.
-    ///
-    /// # Errors
-    /// As of `look`.
-    #[inline(always)]
-    pub fn look_at(&mut self, at: Addr) -> Result<bool, Refusal>
-        ensures stands { IsStoreSlot self.old.sizes at → Fetches P.PageDevice (at / 16) self.old result self.new }
-        ensures known { IfOk result (λ stands. IsTrue stands ↔ IsStoreSlot self.old.sizes at) }
-        ensures none { (IsStoreSlot self.old.sizes at → ⊥) → (result ≡ Ok false) × (self.new ≡ self.old) }
-    {
-        let page = at.page();
-        if page == 0 || page >= self.layout().pages() as u64 || at.slot() == 0 {
-            return Ok(false);
-        }
-        match self.look(page as u32) {
-            Ok(()) => Ok(true),
-            Err(refusal) => Err(refusal),
-        }
-    }
-
-    /// What stands at an address whose page is at hand.
-    #[inline(always)]
-    pub fn slot_at_hand(&self, at: Addr) -> &Slot
-        requires place { IsStoreSlot self.now.sizes at }
-        requires hand { IsAtHand self.now (at / 16) }
-        ensures bytes { result.now ≡ slot_at self.now.images at }
-        ensures slot { IsSlotOf self.now.sizes (at / 16) (at % 16) result.now }
-    {
-        self.slot_bytes(at)
+        self.shows_changed();
+        was_changed(&self.entries, page) && self.at_hand(page).lsn() > lsn
     }
 
     /// Makes what was written to the device durable.
@@ -397,25 +410,8 @@ impl<P: PageDevice> Pages<P> {
         ensures held { slots_in self.now.sizes self.now.images (directory_at sender) ≡ Sender sender result }
         ensures fits { IsDirectoryOf self.now.sizes sender (record { sender = sender; directory = result }) }
     {
-        let at = self.layout().directory_of(sender);
-        DirectorySlot::read(self.slot_bytes(at)).directory
-    }
-
-    /// What the directory says of a sender, whose page is at hand or is read, as by `look`.
-    ///
-    /// # Errors
-    /// As of `look`.
-    pub fn read_group(&mut self, sender: u32) -> Result<Directory, Refusal>
-        requires { sender < sender_count self.old.sizes }
-        ensures held { IfOk result (λ d. slots_in self.new.sizes self.new.images (directory_at sender) ≡ Sender sender d) }
-        ensures fits { IfOk result (λ d. IsDirectoryOf self.new.sizes sender (record { sender = sender; directory = d })) }
-        ensures fetched { Fetches P.PageDevice (directory_at sender / 16) self.old result self.new }
-    {
-        let at = self.layout().directory_of(sender);
-        match self.look(at.page() as u32) {
-            Ok(()) => Ok(self.group(sender)),
-            Err(refusal) => Err(refusal),
-        }
+        self.shows_framed();
+        self.group_at_hand(sender)
     }
 
     /// Whether a sender's group is closed, as its directory slot tells it. No page is read.
@@ -431,8 +427,9 @@ impl<P: PageDevice> Pages<P> {
         requires { client < client_count self.now.sizes }
         ensures { slots_in self.now.sizes self.now.images (client_slot_at self.now.sizes client) ≡ Client result }
     {
+        self.shows_framed();
         let at = self.layout().client_slot_of(client);
-        ClientSlot::read(self.slot_bytes(at))
+        ClientSlot::read(self.slot_at_hand(at))
     }
 
     /// The cell at an address; none where it is free.
@@ -441,27 +438,8 @@ impl<P: PageDevice> Pages<P> {
         ensures held { cell_in (slots_in self.now.sizes self.now.images at) ≡ result }
         ensures fits { IfSome result (λ cell. IsCellOf self.now.sizes cell) }
     {
-        match CellSlot::read(self.slot_bytes(at)) {
-            Some(CellSlot::Used(cell)) => Some(cell),
-            _ => None,
-        }
-    }
-
-    /// The cell at an address, whose page is at hand or is read, as by `look`; none where it is free.
-    ///
-    /// # Errors
-    /// As of `look`.
-    pub fn read_cell(&mut self, at: Addr) -> Result<Option<Cell>, Refusal>
-        requires { IsCellAddress self.old.sizes at }
-        ensures held { IfOk result (λ cell. cell_in (slots_in self.new.sizes self.new.images at) ≡ cell) }
-        ensures fits { IfOk result (λ cell. IfSome cell (λ c. IsCellOf self.new.sizes c)) }
-        ensures fetched { Fetches P.PageDevice (at / 16) self.old result self.new }
-    {
-        let _layout = self.layout();
-        match self.look(at.page() as u32) {
-            Ok(()) => Ok(self.cell(at)),
-            Err(refusal) => Err(refusal),
-        }
+        self.shows_framed();
+        self.cell_at_hand(at)
     }
 
     /// The free cell with the lowest address, from this place among the cells on; none where each of these is used.
@@ -491,16 +469,5 @@ impl<P: PageDevice> Pages<P> {
             place = next + 1;
         }
         (used + (self.layout.cell_slots() as usize - place)) as u32
-    }
-
-    // The bytes of a slot.
-    #[inline(always)]
-    fn slot_bytes(&self, at: Addr) -> &Slot
-        requires { IsStoreSlot self.now.sizes at }
-        ensures bytes { result.now ≡ slot_at self.now.images at }
-        ensures slot { IsSlotOf self.now.sizes (at / 16) (at % 16) result.now }
-    {
-        let frame = &self.frames[at.page() as usize];
-        frame.page.slot(at.slot())
     }
 }

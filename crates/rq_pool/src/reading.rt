@@ -1,17 +1,20 @@
 //! Reads the pages of a device.
-ghost use Rattle.std.specs.Prelude.{ℕ, ◌≡◌, ◌↔◌, ◌<◌, ◌≤◌, ◌+◌, ◌%◌, ◌^◌, ◌++◌, ◌∷◌, [], false, replicate, IsTrue, IfOk, IfErr, OnOk, Some};
+ghost use Rattle.std.specs.Prelude.{ℕ, ◌≡◌, ◌↔◌, ◌<◌, ◌≤◌, ◌+◌, ◌%◌, ◌^◌, ◌++◌, ◌∷◌, [], false, nat_eq, replicate, IsTrue, IfOk, IfErr, OnOk, Some};
 ghost use Rattle.std.specs.Bool.{OnTrue};
 ghost use Rattle.rq_page.specs.Sizes.{page_count};
 ghost use Rattle.rq_page.specs.Kinds.{kind_of};
 ghost use Rattle.rq_page.specs.Cells.{free_bytes};
 ghost use Rattle.rq_page.specs.Slots.{IsSlotOf};
 ghost use Rattle.rq_page.specs.declared.layout.PageKind.TheVariants as kind;
-ghost use Rattle.rq_pool.specs.Indexed.{IsIndex, closed_groups, free_cells};
-ghost use Rattle.rq_pool.specs.Frames.{images_of, changed_of, fixed_of, IsFirstAlone, IsFirstFixed};
+ghost use Rattle.rq_disk.specs.Device.PageAsk.{Reads};
+ghost use Rattle.rq_pool.specs.Indexed.{AreNotedOn, IsIndex, closed_groups, free_cells};
+ghost use Rattle.rq_pool.specs.Fetching.{HasFailed, NotReadAgain};
+ghost use Rattle.rq_pool.specs.Frames.{AllStand, AreTied, IsFirstFixed, changed_of, frames_of, images_of, pages_of, places_of};
+ghost use Rattle.rq_pool.specs.Held.{IsFixed};
 ghost use Rattle.rq_pool.specs.Reading.{OnlyRead, IsSuperblock, IsSoundPage, ArePages, AreSeen, StopsFor};
 
-use crate::Frame;
-use crate::notes::note_page;
+use crate::notes::{are_noted, note_page};
+use crate::{Entry, Frame};
 use rq_bitset::Index;
 use rq_bytes::equal::are_equal;
 use rq_disk::{PAGE, PageDevice};
@@ -21,6 +24,7 @@ use rq_page::cell::CellSlot;
 use rq_page::layout::{Layout, PageKind, SLOTS};
 use rq_page::page::Page;
 use std::alloc::Global;
+use std::snapshot::Snapshot;
 
 /// Reads the first page, and the sizes that it tells.
 pub(crate) fn read_superblock<P: PageDevice>(device: &mut P) -> Result<(Page, Layout), Refusal>
@@ -37,29 +41,35 @@ pub(crate) fn read_superblock<P: PageDevice>(device: &mut P) -> Result<(Page, La
     }
 }
 
-/// Reads the pages behind the first, and checks each as it is read. Beside them, which cells are free and which groups are
-/// closed.
+/// Reads the pages behind the first into frames, and checks each as it is read. Beside the table of them and the frames, which
+/// cells are free and which groups are closed.
 pub(crate) fn read_frames<P: PageDevice>(
     alloc: Global,
     device: &mut P,
     layout: &Layout,
     superblock: Page,
-) -> Result<(Vec<Frame>, Index, Index), Refusal>
+) -> Result<(Vec<Entry>, Vec<Frame>, Index, Index), Refusal>
     requires superblock { IsSuperblock layout.now superblock }
     requires first { P.honest device.old → superblock ≡ P.seen device.old 0 }
     ensures ok { IfOk result (λ read. ArePages layout.now (images_of read.0.items)) }
     ensures seen { IfOk result (λ read. P.honest device.new
         → AreSeen (P.seen device.old) (images_of read.0.items) (page_count layout.now)) }
     ensures changed { IfOk result (λ read. changed_of read.0.items ≡ replicate (page_count layout.now) false) }
-    ensures fixed { IfOk result (λ read. IsFirstFixed (fixed_of read.0.items)) }
-    ensures alone { IfOk result (λ read. IsFirstAlone (fixed_of read.0.items)) }
-    ensures free { IfOk result (λ read. IsIndex (free_cells layout.now) layout.now (images_of read.0.items) read.1) }
-    ensures closed { IfOk result (λ read. IsIndex (closed_groups layout.now) layout.now (images_of read.0.items) read.2) }
+    ensures tied { IfOk result (λ read. AreTied (images_of read.0.items) (changed_of read.0.items)
+        (places_of read.0.items) (frames_of read.1.items) (pages_of read.1.items)) }
+    ensures stand { IfOk result (λ read. AllStand (places_of read.0.items)) }
+    ensures first { IfOk result (λ read. IsFirstFixed (frames_of read.1.items)) }
+    ensures loose { IfOk result (λ read. (q : ℕ) → 1 ≤ q → IsFixed (frames_of read.1.items) q → ⊥) }
+    ensures free { IfOk result (λ read. IsIndex (free_cells layout.now) layout.now (images_of read.0.items) read.2) }
+    ensures closed { IfOk result (λ read. IsIndex (closed_groups layout.now) layout.now (images_of read.0.items) read.3) }
     ensures cause { OnOk result (P.faults device.new ≡ P.faults device.old) }
     ensures err { IfErr result (λ e. StopsFor P.PageDevice e device.old device.new) }
     ensures device { OnlyRead P.PageDevice device.old device.new }
 {
     let count = layout.pages();
+    let Ok(mut entries) = Vec::with_capacity(alloc, count as usize) else {
+        return Err(Refusal::NoMemory);
+    };
     let Ok(mut frames) = Vec::with_capacity(alloc, count as usize) else {
         return Err(Refusal::NoMemory);
     };
@@ -70,13 +80,38 @@ pub(crate) fn read_frames<P: PageDevice>(
         return Err(Refusal::NoMemory);
     };
     let mut page = superblock;
-    add_frame(&mut frames, &page, true)?;
+    add_frame(&mut entries, &mut frames, 0, &page)?;
     for number in 1..count {
         read_sound_page(device, layout, number, &mut page)?;
-        add_frame(&mut frames, &page, false)?;
-        note_page(&mut free, &mut closed, layout, &frames, number);
+        add_frame(&mut entries, &mut frames, number, &page)?;
+        note_page(&mut free, &mut closed, layout, &page, number);
     }
-    Ok((frames, free, closed))
+    Ok((entries, frames, free, closed))
+}
+
+/// Reads a page behind the first once more, over another. It has to be one of a store that the indexes tell of.
+pub(crate) fn read_again<P: PageDevice>(
+    device: &mut P,
+    layout: &Layout,
+    free: &Index,
+    closed: &Index,
+    number: u32,
+    page: &mut Page,
+) -> Result<(), Refusal>
+    ensures ok { OnOk result ((P.honest device.new → page.new ≡ P.seen device.old number)
+        × IsSoundPage layout.now number page.new) }
+    ensures free { OnOk result (AreNotedOn (free_cells layout.now) layout.now number page.new free.now) }
+    ensures closed { OnOk result (AreNotedOn (closed_groups layout.now) layout.now number page.new closed.now) }
+    ensures cause { OnOk result (P.faults device.new ≡ P.faults device.old) }
+    ensures err { IfErr result (λ e. NotReadAgain P.PageDevice layout.now free.now closed.now number e device.old device.new) }
+    ensures device { OnlyRead P.PageDevice device.old device.new }
+{
+    read_into(device, number, page)?;
+    if is_sound(layout, number, page) && are_noted(free, closed, layout, page, number) {
+        Ok(())
+    } else {
+        Err(Refusal::Damaged(Damage::Page(number)))
+    }
 }
 
 // Reads a page behind the first over another, and checks it.
@@ -104,19 +139,38 @@ fn read_sound_page<P: PageDevice>(
     }
 }
 
-// Puts a page into a frame at the end, where it may be fixed for good.
-fn add_frame(frames: &mut Vec<Frame>, page: &Page, fixed: bool) -> Result<(), Refusal>
-    ensures ok { OnOk result (images_of frames.new.items ≡ images_of frames.old.items ++ page.now ∷ []) }
-    ensures changed { OnOk result (changed_of frames.new.items ≡ changed_of frames.old.items ++ false ∷ []) }
-    ensures fixed { OnOk result (fixed_of frames.new.items ≡ fixed_of frames.old.items ++ fixed ∷ []) }
+// Puts a page into a frame more, and into the table. The superblock is fixed in its frame.
+fn add_frame(
+    entries: &mut Vec<Entry>,
+    frames: &mut Vec<Frame>,
+    number: u32,
+    page: &Page,
+) -> Result<(), Refusal>
+    ensures images { OnOk result (images_of entries.new.items ≡ images_of entries.old.items ++ page.now ∷ []) }
+    ensures changed { OnOk result (changed_of entries.new.items ≡ changed_of entries.old.items ++ false ∷ []) }
+    ensures places { OnOk result (places_of entries.new.items ≡ places_of entries.old.items ++ Some number ∷ []) }
+    ensures frames { OnOk result (frames_of frames.new.items ≡ frames_of frames.old.items ++ record {
+      page = number;
+      fixed = nat_eq number 0;
+    } ∷ []) }
+    ensures pages { OnOk result (pages_of frames.new.items ≡ pages_of frames.old.items ++ page.now ∷ []) }
     ensures err { IfErr result (λ e. e ≡ Refusal.NoMemory) }
 {
-    let frame = Frame {
-        page: Page::from_image(page.image()),
+    let entry = Entry {
+        image: Snapshot::of(page),
         changed: false,
-        fixed,
+        place: Some(number),
+    };
+    let frame = Frame {
+        number,
+        fixed: number == 0,
+        page: Page::from_image(page.image()),
     };
     match frames.push(frame) {
+        Ok(()) => {}
+        Err(_) => return Err(Refusal::NoMemory),
+    }
+    match entries.push(entry) {
         Ok(()) => Ok(()),
         Err(_) => Err(Refusal::NoMemory),
     }
@@ -141,8 +195,7 @@ fn read_page<P: PageDevice>(device: &mut P, number: u32) -> Result<Page, Refusal
 fn read_into<P: PageDevice>(device: &mut P, number: u32, page: &mut Page) -> Result<(), Refusal>
     ensures ok { OnOk result (P.honest device.new → page.new ≡ P.seen device.old number) }
     ensures cause { OnOk result (P.faults device.new ≡ P.faults device.old) }
-    ensures err { IfErr result (λ e. (e ≡ Refusal.DiskRead)
-        × (P.faults device.new ≡ (P.faults device.old + 1) % 2 ^ 64)) }
+    ensures err { IfErr result (λ e. (e ≡ Refusal.DiskRead) × HasFailed P.PageDevice (Reads number) device.old device.new) }
     ensures device { OnlyRead P.PageDevice device.old device.new }
 {
     match device.read(number, page.image_mut()) {

@@ -1,19 +1,38 @@
-use Rattle.std.proofs.Common.{◌<◌, ◌≤◌, length, arith, subst, sym, true}
+use Rattle.std.proofs.Common.{subst, sym}
 use Rattle.rq_page.specs.Sizes.{Sizes}
 use Rattle.rq_pool.specs.Want.{AreOfStore}
-use Rattle.rq_pool.proofs.Holding.{fix_last, had, set_next}
+use Rattle.rq_pool.proofs.Bringing.{cannot_then, had_all, had_fixed, kept_let, not_fixed, not_let, stay_let, way_before}
+use Rattle.rq_pool.proofs.Holding.{held_last}
 use Rattle.rq_pool.proofs.Pages.fix_all.Goals as goal
 
-pub loop-place-preserved : goal.loop-place-preserved
-loop-place-preserved g c =
-    let lt : c.loop-place.place < length c.args.pages.now = omega (arith, c.loop-place-test.true, c.loop-place.auto.place-end) in
-    set_next true c.args.self.now c.loop-place.self c.hold_page.new.self c.args.pages.now c.loop-place.place c.loop-place.invariant lt c.hold_page.ensures.still c.hold_page.ensures.frames
+pub bring_all-requires-clause-of_store : goal.bring_all-requires-clause-of_store
+bring_all-requires-clause-of_store g c = subst (λ (z : Sizes). AreOfStore z c.args.pages.now) (sym c.hold_all.ensures.still.sizes) c.requires.of_store
 
-pub returns-clause-fixed : goal.returns-clause-fixed
-returns-clause-fixed g c =
-    let end : length c.args.pages.now ≤ c.loop-place.place = omega (arith, c.loop-place-test.false, c.loop-place.auto.place-end) in
-    fix_last c.args.self.now c.loop-place.self c.args.pages.now c.loop-place.place end c.loop-place.invariant c.shows_framed-2.ensures
-    (subst (λ (z : Sizes). AreOfStore z c.args.pages.now) (sym c.loop-place.invariant.still.sizes) c.requires.of_store)
+pub bring_all-requires-clause-held : goal.bring_all-requires-clause-held
+bring_all-requires-clause-held g c = held_last c.args.self.now c.hold_all.new.self c.args.pages.now c.hold_all.ensures
 
-pub returns-clause-had : goal.returns-clause-had
-returns-clause-had g c = had c.args.self.now c.args.forced c.args.pages.now c.shows_framed.ensures c.requires.of_store
+pub returns-in-Ok-clause-fixed : goal.returns-in-Ok-clause-fixed
+returns-in-Ok-clause-fixed g c = had_fixed g.P.PageDevice c.args.forced c.hold_all.new.self c.bring_all.new.self c.args.pages.now c.in-Ok.ensures.had
+
+pub returns-in-Ok-clause-had : goal.returns-in-Ok-clause-had
+returns-in-Ok-clause-had g c =
+    λ cannot. had_all g.P.PageDevice c.args.forced c.hold_all.new.self c.bring_all.new.self c.args.pages.now c.in-Ok.ensures.had
+    (cannot_then g.P.PageDevice c.args.forced c.args.self.now c.hold_all.new.self c.args.pages.now c.hold_all.ensures cannot)
+
+pub returns-in-Err-clause-refused : goal.returns-in-Err-clause-refused
+returns-in-Err-clause-refused g c =
+    not_let g.P.PageDevice c.args.forced c.args.self.now c.bring_all.new.self c.let_all.new.self c.args.pages.now c.let_all.ensures.still c.in-Err.refusal
+    (not_fixed g.P.PageDevice c.args.forced c.args.self.now c.hold_all.new.self c.args.pages.now c.hold_all.ensures c.in-Err.refusal c.bring_all.new.self c.in-Err.ensures.refused)
+
+pub returns-in-Err-clause-left : goal.returns-in-Err-clause-left
+returns-in-Err-clause-left g c = c.let_all.ensures.free
+
+pub returns-in-Err-clause-stay : goal.returns-in-Err-clause-stay
+returns-in-Err-clause-stay g c =
+    let way = way_before g.P.PageDevice c.args.forced c.args.self.now c.hold_all.new.self c.args.pages.now c.hold_all.ensures c.bring_all.new.self c.in-Err.ensures.way in
+    stay_let g.P.PageDevice c.args.forced c.args.self.now c.bring_all.new.self c.let_all.new.self c.args.pages.now c.let_all.ensures.still way c.let_all.ensures.stay
+
+pub returns-in-Err-clause-kept : goal.returns-in-Err-clause-kept
+returns-in-Err-clause-kept g c =
+    let way = way_before g.P.PageDevice c.args.forced c.args.self.now c.hold_all.new.self c.args.pages.now c.hold_all.ensures c.bring_all.new.self c.in-Err.ensures.way in
+    kept_let g.P.PageDevice c.args.forced c.args.self.now c.bring_all.new.self c.let_all.new.self c.args.pages.now c.let_all.ensures.still way

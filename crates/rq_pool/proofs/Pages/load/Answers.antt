@@ -1,10 +1,17 @@
-use Rattle.rq_pool.proofs.Readings.{stops_later}
-use Rattle.rq_pool.proofs.Fetched.{first_loose}
+use Rattle.rq_pool.proofs.Over.{over_loaded, pool_loaded}
+use Rattle.rq_pool.proofs.Readings.{only_read_on, stops_later}
 use Rattle.rq_pool.proofs.Pages.load.Goals as goal
 
 pub returns-in-Err-read_frames-clause-stopped : goal.returns-in-Err-read_frames-clause-stopped
 returns-in-Err-read_frames-clause-stopped g c =
     stops_later g.P.PageDevice c.args.device c.read_superblock.new.device c.read_frames.new.device c.in-Err-read_frames.refusal c.in-Ok.ensures.device.same c.in-Ok.ensures.cause c.in-Err-read_frames.ensures.err
 
-pub returns-in-Ok-read_frames-clause-loose : goal.returns-in-Ok-read_frames-clause-loose
-returns-in-Ok-read_frames-clause-loose g c = first_loose _ c.in-Ok-read_frames.ensures.alone
+pub invariant_of-result : goal.invariant_of-result
+invariant_of-result g c =
+    let P = g.P.PageDevice in
+    let r = c.in-Ok-read_frames.ensures in
+    (over_loaded P _ _ _ c.read_superblock.new.device c.read_frames.new.device (pool_loaded _ _ r.ok) r.changed r.seen r.device.same, r.free, r.closed, r.first, r.tied, tt, r.stand)
+
+pub returns-in-Ok-read_frames-clause-device : goal.returns-in-Ok-read_frames-clause-device
+returns-in-Ok-read_frames-clause-device g c =
+    only_read_on g.P.PageDevice c.args.device c.read_superblock.new.device c.read_frames.new.device c.in-Ok.ensures.device c.in-Ok-read_frames.ensures.device

@@ -1,14 +1,14 @@
-use Rattle.std.proofs.Common.{refl}
-use Rattle.std.proofs.lemmas.List.{map-set}
-use Rattle.rq_pool.specs.Frames.{is_fixed}
-use Rattle.rq_pool.proofs.Framed.{changed_kept, images_kept}
+use Rattle.std.proofs.Common.{ap, sym}
+use Rattle.std.proofs.Math.Seq.{map-set_same}
+use Rattle.rq_pool.specs.Held.{Held, nothing_held}
+use Rattle.rq_pool.specs.Frames.{held_of, page_in}
+use Rattle.rq_pool.proofs.Tabled.{read_at, set_at}
 use Rattle.rq_pool.proofs.frames.hold.Goals as goal
 
-pub returns-clause-images : goal.returns-clause-images
-returns-clause-images c = images_kept _ _ _ _ c.index_mut-frame.ensures.value refl
+pub returns-clause-frames : goal.returns-clause-frames
+returns-clause-frames c =
+    let was = read_at held_of c.args.frames.now.items c.args.place c.index_mut-frame.result.now nothing_held c.requires c.index_mut-frame.ensures.value in
+    set_at held_of c.args.frames.now.items c.args.place _ _ (ap (λ (h : Held). record { page = h.page; fixed = c.args.fixed }) (sym was))
 
-pub returns-clause-changed : goal.returns-clause-changed
-returns-clause-changed c = changed_kept _ _ _ _ c.index_mut-frame.ensures.value refl
-
-pub returns-clause-fixed : goal.returns-clause-fixed
-returns-clause-fixed c = map-set is_fixed _ _ _
+pub returns-clause-pages : goal.returns-clause-pages
+returns-clause-pages c = map-set_same page_in c.args.frames.now.items c.args.place _ c.index_mut-frame.result.now (ap page_in c.index_mut-frame.ensures.value)

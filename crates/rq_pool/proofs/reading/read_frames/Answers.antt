@@ -1,12 +1,15 @@
-use Rattle.std.proofs.Common.{◌≡◌, ◌∙◌, ◌++◌, ◌∷◌, [], ℕ, List, Bool, false, ap, arith, replicate, rules, subst, sym}
+use Rattle.std.proofs.Common.{◌≡◌, ◌∙◌, ◌++◌, ◌∷◌, [], ℕ, List, Bool, Option, Some, false, nat_eq, ap, arith, refl, replicate, rules, subst, sym, true}
 use Rattle.std.proofs.lemmas.List.{replicate_more}
 use Rattle.rq_model.specs.declared.refusal.Refusal.TheVariants as why
 use Rattle.rq_disk.specs.Device.{Images}
 use Rattle.rq_page.specs.Sizes.{page_count}
-use Rattle.rq_pool.specs.Frames.{IsFirstAlone, IsFirstFixed, fixed_of, images_of}
+use Rattle.rq_pool.specs.declared.Entry.{Entry}
+use Rattle.rq_pool.specs.declared.Frame.{Frame}
+use Rattle.rq_pool.specs.Frames.{frames_of, images_of, pages_of, places_of}
+use Rattle.rq_pool.specs.Held.{Held}
 use Rattle.rq_pool.specs.Indexed.{closed_groups, free_cells}
 use Rattle.rq_pool.specs.Reading.{IsSuperblock, StopsFor}
-use Rattle.rq_pool.proofs.Fetched.{first_more, first_stays}
+use Rattle.rq_pool.proofs.Order.{all_stand, first_is_fixed, frames_more, frames_one, none_fixed, places_more, places_one, tied_first}
 use Rattle.rq_pool.proofs.Readings.{only_read_on, seen_more, read_more, earlier, stops_later}
 use Rattle.rq_pool.proofs.Indexes.{cells_stand, groups_stand, index_whole, noted_more}
 use Rattle.rq_pool.proofs.reading.read_frames.Goals as goal
@@ -17,9 +20,10 @@ loop-number-preserved g c =
     let i = c.loop-number.invariant in
     let z = c.args.layout.now in
     let n = c.loop-number.number in
-    let old = images_of c.loop-number.frames.items in
-    let new = images_of c.add_frame-in-loop-number.new.frames.items in
-    let grown = c.in_ok-add_frame-2.ensures.ok in
+    let old = images_of c.loop-number.entries.items in
+    let new = images_of c.add_frame-in-loop-number.new.entries.items in
+    let more = c.in_ok-add_frame-2.ensures in
+    let grown = more.images in
     let page = c.read_sound_page.new.page in
     let read = c.in_ok-read_sound_page.ensures in
     let noted = c.note_page.ensures in
@@ -27,11 +31,12 @@ loop-number-preserved g c =
       read = read_more old new n page grown i.read.count c.args.layout.now i.read read.ok.1;
       superblock = earlier old new n page grown i.read.count 0 (omega (arith, c.loop-number.auto.number)) ∙ i.superblock;
       seen = λ h. seen_more old new n page grown i.read.count (P.seen c.args.device.now) (i.seen (read.device.honest h)) (read.ok.0 h ∙ ap (λ (s : Images). s n) i.device.same);
-      unchanged = c.in_ok-add_frame-2.ensures.changed ∙ ap (λ (l : List Bool). l ++ false ∷ []) i.unchanged ∙ replicate_more n false;
-      fixed = subst IsFirstFixed (sym c.in_ok-add_frame-2.ensures.fixed) (first_stays (fixed_of c.loop-number.frames.items) i.fixed);
-      alone = subst IsFirstAlone (sym c.in_ok-add_frame-2.ensures.fixed) (first_more (fixed_of c.loop-number.frames.items) i.alone);
-      free = noted_more (free_cells z) z (cells_stand z) old new c.loop-number.free c.note_page.new.free n page grown i.read.count i.free (rw c.deref.ensures.value at noted.free) noted.free_others noted.free_same;
-      closed = noted_more (closed_groups z) z (groups_stand z) old new c.loop-number.closed c.note_page.new.closed n page grown i.read.count i.closed (rw c.deref.ensures.value at noted.closed) noted.closed_others noted.closed_same;
+      unchanged = more.changed ∙ ap (λ (l : List Bool). l ++ false ∷ []) i.unchanged ∙ replicate_more n false;
+      places = more.places ∙ ap (λ (l : List (Option ℕ)). l ++ Some n ∷ []) i.places ∙ sym (places_more n);
+      frames = more.frames ∙ ap (λ (l : List Held). l ++ record { page = n; fixed = nat_eq n 0 } ∷ []) i.frames ∙ sym (frames_more n);
+      pages = more.pages ∙ ap (λ (l : List (List ℕ)). l ++ page ∷ []) i.pages ∙ sym grown;
+      free = noted_more (free_cells z) z (cells_stand z) old new c.loop-number.free c.note_page.new.free n page grown i.read.count i.free noted.free noted.free_others noted.free_same;
+      closed = noted_more (closed_groups z) z (groups_stand z) old new c.loop-number.closed c.note_page.new.closed n page grown i.read.count i.closed noted.closed noted.closed_others noted.closed_same;
       faults = read.cause ∙ i.faults;
       device = only_read_on P c.args.device.now c.loop-number.device c.read_sound_page.new.device i.device read.device;
     }
@@ -89,3 +94,41 @@ returns-clause-closed g c =
     let z = c.args.layout.now in
     let all : c.loop-number.number ≡ page_count c.args.layout.now = (let low = c.loop-number-test.false in let high = c.loop-number.auto.number-end in let n = c.pages-count.ensures.number in omega (arith, low, high, n)) in
     index_whole (closed_groups z) z (groups_stand z) _ _ c.loop-number.number all c.loop-number.invariant.closed
+
+pub returns-clause-tied : goal.returns-clause-tied
+returns-clause-tied g c =
+    let i = c.loop-number.invariant in tied_first c.loop-number.number _ _ _ _ _ i.read.count i.unchanged i.places i.frames i.pages
+
+pub returns-clause-stand : goal.returns-clause-stand
+returns-clause-stand g c =
+    let i = c.loop-number.invariant in
+    all_stand c.loop-number.number _ _ _ _ _ i.read.count i.unchanged i.places i.frames i.pages
+
+pub returns-clause-first : goal.returns-clause-first
+returns-clause-first g c =
+    let i = c.loop-number.invariant in
+    first_is_fixed c.loop-number.number _ _ _ _ _ i.read.count i.unchanged i.places i.frames i.pages (omega (arith, c.loop-number.auto.number))
+
+pub returns-clause-loose : goal.returns-clause-loose
+returns-clause-loose g c =
+    let i = c.loop-number.invariant in
+    none_fixed c.loop-number.number _ _ _ _ _ i.read.count i.unchanged i.places i.frames i.pages
+
+pub loop-number-init : goal.loop-number-init
+loop-number-init g c =
+    let a = c.in_ok-add_frame.ensures in
+    let images : images_of c.add_frame.new.entries.items ≡ c.args.superblock ∷ [] = a.images ∙ ap (λ (l : List Entry). images_of l ++ c.args.superblock ∷ []) c.in-Ok.ensures.items in
+    let pages : pages_of c.add_frame.new.frames.items ≡ c.args.superblock ∷ [] = a.pages ∙ ap (λ (l : List Frame). pages_of l ++ c.args.superblock ∷ []) c.in-Ok-with_capacity.ensures.items in
+    record {
+      read = search rules;
+      superblock = search rules;
+      seen = search rules;
+      unchanged = search rules;
+      places = a.places ∙ ap (λ (l : List Entry). places_of l ++ Some 0 ∷ []) c.in-Ok.ensures.items ∙ sym places_one;
+      frames = a.frames ∙ ap (λ (l : List Frame). frames_of l ++ record { page = 0; fixed = true } ∷ []) c.in-Ok-with_capacity.ensures.items ∙ sym frames_one;
+      pages = pages ∙ sym images;
+      free = search rules;
+      closed = search rules;
+      faults = refl;
+      device = search rules;
+    }

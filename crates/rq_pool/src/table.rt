@@ -1,0 +1,63 @@
+//! The table of pages: of each its image, as contracts see it, and the frame in which it stands.
+ghost use Rattle.std.specs.Prelude.{◌≡◌, ◌<◌, length, slice_set};
+ghost use Rattle.rq_pool.specs.Frames.{changed_of, images_of, place_at, places_of};
+ghost use Rattle.rq_pool.specs.Pooled.{is_changed};
+
+use crate::Entry;
+use rq_page::page::Page;
+use std::snapshot::Snapshot;
+
+/// The frame in which a page stands; none where it stands in none.
+#[inline(always)]
+pub(crate) fn place_of(entries: &[Entry], number: u32) -> Option<u32>
+    requires { number < length entries.now }
+    ensures { result ≡ place_at (places_of entries.now) number }
+{
+    let entry = &entries[number as usize];
+    entry.place
+}
+
+/// Whether a page was changed since it was read or written.
+pub(crate) fn was_changed(entries: &[Entry], number: u32) -> bool
+    requires { number < length entries.now }
+    ensures { result ≡ is_changed (changed_of entries.now) number }
+{
+    let entry = &entries[number as usize];
+    entry.changed
+}
+
+/// Has a page count as changed, or not.
+pub(crate) fn mark(entries: &mut Vec<Entry>, number: u32, changed: bool)
+    requires { number < length entries.old.items }
+    ensures images { images_of entries.new.items ≡ images_of entries.old.items }
+    ensures changed { changed_of entries.new.items ≡ slice_set (changed_of entries.old.items) number changed }
+    ensures places { places_of entries.new.items ≡ places_of entries.old.items }
+    ensures count { length entries.new.items ≡ length entries.old.items }
+{
+    let entry = &mut entries[number as usize];
+    entry.changed = changed;
+}
+
+/// Has a page stand in a frame, or in none.
+pub(crate) fn set_place(entries: &mut Vec<Entry>, number: u32, place: Option<u32>)
+    requires { number < length entries.old.items }
+    ensures images { images_of entries.new.items ≡ images_of entries.old.items }
+    ensures changed { changed_of entries.new.items ≡ changed_of entries.old.items }
+    ensures places { places_of entries.new.items ≡ slice_set (places_of entries.old.items) number place }
+    ensures count { length entries.new.items ≡ length entries.old.items }
+{
+    let entry = &mut entries[number as usize];
+    entry.place = place;
+}
+
+/// Has this be the image of a page. It takes no bytes.
+pub(crate) fn set_image(entries: &mut Vec<Entry>, number: u32, page: &Page)
+    requires { number < length entries.old.items }
+    ensures images { images_of entries.new.items ≡ slice_set (images_of entries.old.items) number page.now }
+    ensures changed { changed_of entries.new.items ≡ changed_of entries.old.items }
+    ensures places { places_of entries.new.items ≡ places_of entries.old.items }
+    ensures count { length entries.new.items ≡ length entries.old.items }
+{
+    let entry = &mut entries[number as usize];
+    entry.image = Snapshot::of(page);
+}
