@@ -1,5 +1,6 @@
 pub mod Pooled
 pub mod Held
+pub mod Places
 pub mod Frames
 pub mod Indexed
 pub mod Reading

@@ -21,13 +21,13 @@ mod frames;
 mod growing;
 mod notes;
 mod reading;
-mod table;
+pub mod table;
 mod writing;
 
 use crate::frames::{redo_frame, write_slot};
 use crate::notes::{note_cell, note_group};
 use crate::reading::{read_frames, read_superblock};
-use crate::table::{mark, set_image, was_changed};
+use crate::table::{Place, mark, set_image, was_changed};
 use crate::writing::write;
 use rq_bitset::Index;
 use rq_disk::{PAGE, PageDevice};
@@ -53,7 +53,7 @@ pub struct Entry {
     /// Whether it was changed since it was read or written.
     pub changed: bool,
     /// The frame in which it stands.
-    pub place: Option<u32>,
+    pub place: Place,
 }
 
 /// A frame: a page in memory.

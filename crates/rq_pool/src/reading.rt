@@ -14,6 +14,7 @@ ghost use Rattle.rq_pool.specs.Held.{IsFixed};
 ghost use Rattle.rq_pool.specs.Reading.{OnlyRead, IsSuperblock, IsSoundPage, ArePages, AreSeen, StopsFor};
 
 use crate::notes::{are_noted, note_page};
+use crate::table::Place;
 use crate::{Entry, Frame};
 use rq_bitset::Index;
 use rq_bytes::equal::are_equal;
@@ -146,6 +147,7 @@ fn add_frame(
     number: u32,
     page: &Page,
 ) -> Result<(), Refusal>
+    requires { number < 4294967295 }
     ensures images { OnOk result (images_of entries.new.items ≡ images_of entries.old.items ++ page.now ∷ []) }
     ensures changed { OnOk result (changed_of entries.new.items ≡ changed_of entries.old.items ++ false ∷ []) }
     ensures places { OnOk result (places_of entries.new.items ≡ places_of entries.old.items ++ Some number ∷ []) }
@@ -159,7 +161,7 @@ fn add_frame(
     let entry = Entry {
         image: Snapshot::of(page),
         changed: false,
-        place: Some(number),
+        place: Place::new(Some(number)),
     };
     let frame = Frame {
         number,

@@ -11,4 +11,4 @@ pub returns-clause-changed : goal.returns-clause-changed
 returns-clause-changed c = map-set_same was_changed c.args.entries.now.items c.args.number _ c.index_mut-entry.result.now (ap was_changed c.index_mut-entry.ensures.value)
 
 pub returns-clause-places : goal.returns-clause-places
-returns-clause-places c = set_at place_in c.args.entries.now.items c.args.number _ _ refl
+returns-clause-places c = set_at place_in c.args.entries.now.items c.args.number _ _ c.new-entry.ensures
