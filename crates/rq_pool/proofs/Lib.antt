@@ -8,6 +8,7 @@ pub mod Slots
 pub mod Indexes
 pub mod Over
 pub mod Rewritten
+pub mod Dropped
 pub mod Growths
 pub mod KeptUp
 pub mod Fetched

@@ -19,7 +19,6 @@ use rq_page::cell::{Cell, CellSlot};
 use rq_page::directory::{Directory, DirectorySlot};
 use rq_page::page::Page;
 
-// What reads a page that stands in no frame is proved for pools whose frames are few. Today each page stands in one.
 impl<P: PageDevice> Pages<P> {
     /// Has a page be at hand, in a frame or apart. What stands in no frame is read.
     ///
@@ -81,7 +80,7 @@ impl<P: PageDevice> Pages<P> {
     {
         let at = self.layout().directory_of(sender);
         match self.look(at.page() as u32) {
-            Ok(()) => Ok(self.group_at_hand(sender)),
+            Ok(()) => Ok(self.group(sender)),
             Err(refusal) => Err(refusal),
         }
     }
@@ -98,13 +97,13 @@ impl<P: PageDevice> Pages<P> {
     {
         let _layout = self.layout();
         match self.look(at.page() as u32) {
-            Ok(()) => Ok(self.cell_at_hand(at)),
+            Ok(()) => Ok(self.cell(at)),
             Err(refusal) => Err(refusal),
         }
     }
 
-    // What the directory says of a sender, whose page is at hand.
-    pub(crate) fn group_at_hand(&self, sender: u32) -> Directory
+    /// What the directory says of a sender, whose page is at hand.
+    pub fn group(&self, sender: u32) -> Directory
         requires known { sender < sender_count self.now.sizes }
         requires hand { IsAtHand self.now (directory_at sender / 16) }
         ensures held { slots_in self.now.sizes self.now.images (directory_at sender) ≡ Sender sender result }
@@ -114,8 +113,8 @@ impl<P: PageDevice> Pages<P> {
         DirectorySlot::read(self.slot_at_hand(at)).directory
     }
 
-    // The cell at an address whose page is at hand; none where it is free.
-    pub(crate) fn cell_at_hand(&self, at: Addr) -> Option<Cell>
+    /// The cell at an address whose page is at hand; none where it is free.
+    pub fn cell(&self, at: Addr) -> Option<Cell>
         requires cell { IsCellAddress self.now.sizes at }
         requires hand { IsAtHand self.now (at / 16) }
         ensures held { cell_in (slots_in self.now.sizes self.now.images at) ≡ result }

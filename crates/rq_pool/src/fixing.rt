@@ -16,7 +16,6 @@ use rq_disk::PageDevice;
 use rq_model::refusal::Refusal;
 use rq_model::txn::Lsn;
 
-// A page is brought into a frame only where it stands in none. So today, as each page stands in one, no call comes to `replace`.
 impl<P: PageDevice> Pages<P> {
     /// Has pages stand in frames and fixes them there; one may be named more than once. Others may give way, which are written out where they have a change.
     ///
@@ -152,7 +151,7 @@ impl<P: PageDevice> Pages<P> {
     }
 
     // Writes the page in a frame, whose LSN is forced, where it has a change.
-    fn write_out(&mut self, place: u32, forced: Lsn) -> Result<(), Refusal>
+    pub(crate) fn write_out(&mut self, place: u32, forced: Lsn) -> Result<(), Refusal>
         requires { IsLoose self.old.images forced self.old.frames place }
         ensures clean { OnOk result (is_changed self.new.changed (page_at self.old.frames place) ≡ false) }
         ensures counted { OnOk result (P.faults self.new.device ≡ P.faults self.old.device) }

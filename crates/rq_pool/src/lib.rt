@@ -21,6 +21,7 @@ mod frames;
 mod growing;
 mod notes;
 mod reading;
+mod shrinking;
 pub mod table;
 mod writing;
 
@@ -36,9 +37,7 @@ use rq_model::record::{Record, Slot};
 use rq_model::refusal::Refusal;
 use rq_model::txn::Lsn;
 use rq_page::addr::Addr;
-use rq_page::cell::Cell;
 use rq_page::client::ClientSlot;
-use rq_page::directory::Directory;
 use rq_page::layout::Layout;
 use rq_page::page::Page;
 use std::alloc::Global;
@@ -78,8 +77,7 @@ pub enum Written {
 
 /// The pages of a store. Contracts see the device, the sizes, the images of all pages, of each whether it was changed since it was
 /// read or written, which page stands in each frame and whether it is fixed there, and which one stands apart from them, as it was
-/// read last. Here each page stands in a frame; by contract of a read (`look`) one may stand in none. The superblock is fixed in its
-/// frame for good.
+/// read last. The superblock is fixed in its frame for good.
 #[derive(Drop)]
 pub struct Pages<P: PageDevice> {
     device: P,
@@ -100,7 +98,7 @@ pub struct Pages<P: PageDevice> {
 
 impl<P: PageDevice> Model for Pages<P> {
     ghost use Rattle.rq_pool.specs.Pooled.{Pooled, AreOver};
-    ghost use Rattle.rq_pool.specs.Frames.{AllStand, AreTied, IsFirstFixed, MayBeApart, changed_of, frames_of, images_of, pages_of, places_of};
+    ghost use Rattle.rq_pool.specs.Frames.{AreTied, IsFirstFixed, MayBeApart, changed_of, frames_of, images_of, pages_of, places_of};
     ghost use Rattle.rq_pool.specs.Indexed.{IsIndex, closed_groups, free_cells};
 
     ghost Value = { Pooled P };
@@ -114,15 +112,13 @@ impl<P: PageDevice> Model for Pages<P> {
       apart = p.apart;
     } };
 
-    // The last part is so for now: no page stands outside.
     ghost invariant = { λ p. AreOver P.PageDevice p.device p.layout (images_of p.entries.items)
         (changed_of p.entries.items) × IsIndex (free_cells p.layout) p.layout (images_of p.entries.items) p.free
         × IsIndex (closed_groups p.layout) p.layout (images_of p.entries.items) p.closed
         × IsFirstFixed (frames_of p.frames.items)
         × AreTied (images_of p.entries.items) (changed_of p.entries.items) (places_of p.entries.items)
         (frames_of p.frames.items) (pages_of p.frames.items)
-        × MayBeApart (images_of p.entries.items) (places_of p.entries.items) p.apart p.spare
-        × AllStand (places_of p.entries.items) };
+        × MayBeApart (images_of p.entries.items) (places_of p.entries.items) p.apart p.spare };
 }
 
 /// Pages that could not be had: why, and their device.
@@ -135,6 +131,7 @@ pub struct RefusedPages<P> {
 }
 
 impl<P: PageDevice + Drop> Pages<P> {
+    ghost use Rattle.rq_pool.specs.Fetching.{AreAllFramed};
     ghost use Rattle.rq_pool.specs.Held.{IsFixed};
     ghost use Rattle.rq_pool.specs.Reading.{ArePages, AreSeen, OnlyRead, StopsFor, device_of};
 
@@ -148,6 +145,7 @@ impl<P: PageDevice + Drop> Pages<P> {
         ensures seen { IfOk result (λ pages. P.honest pages.device
             → AreSeen (P.seen device) pages.images (page_count pages.sizes)) }
         ensures changed { IfOk result (λ pages. pages.changed ≡ replicate (page_count pages.sizes) false) }
+        ensures framed { IfOk result (λ pages. AreAllFramed pages) }
         ensures loose { IfOk result (λ pages. (q : ℕ) → 1 ≤ q → IsFixed pages.frames q → ⊥) }
         ensures stopped { IfErr result (λ stopped. StopsFor P.PageDevice stopped.refusal device stopped.device) }
         ensures cause { OnOk result (P.faults (device_of result) ≡ P.faults device) }
@@ -196,19 +194,12 @@ impl<P: PageDevice> Pages<P> {
     ghost use Rattle.rq_pool.specs.Writing.{AnswersWhen, DeviceAfter, HasChangeBeyond, IsRedoAt, IsUnwritten, MayHaveSynced, NoChangeBeyond, changed_after};
     ghost use Rattle.rq_pool.specs.Held.{IsFixed, IsFramed, StandOnce};
     ghost use Rattle.rq_pool.specs.Pooled.{AreOver};
-    ghost use Rattle.rq_pool.specs.Fetching.{AreAllFramed};
+    ghost use Rattle.rq_pool.specs.Fetching.{IsAtHand};
 
     /// What is so of the pages of each store, for proofs: it runs no code. Where the device has been honest, each page
     /// that doesn't count as changed reads there as its image.
     pub fn shows_kept(&self)
         ensures { AreOver P.PageDevice self.now.device self.now.sizes self.now.images self.now.changed }
-    {
-        let _layout = self.layout;
-    }
-
-    /// Each page behind the superblock stands in a frame, so no read fails, for proofs: it runs no code.
-    pub fn shows_framed(&self)
-        ensures { AreAllFramed self.now }
     {
         let _layout = self.layout;
     }
@@ -229,21 +220,21 @@ impl<P: PageDevice> Pages<P> {
         self.layout
     }
 
-    /// A page of the store; none where it has no such page.
+    /// A page of the store that is at hand; none where the store has no such page.
     pub fn page(&self, number: u32) -> Option<&Page>
+        requires { number < page_count self.now.sizes → IsAtHand self.now number }
         ensures known { IsSome result ↔ (number < page_count self.now.sizes) }
         ensures image { IfSome result (λ page. page.now ≡ image_at self.now.images number) }
     {
         if number >= self.layout().pages() {
             return None;
         }
-        self.shows_framed();
-        self.shows_frames();
         Some(self.at_hand(number))
     }
 
-    /// What stands at an address of a page behind the first; none where the store has no such slot.
+    /// What stands at an address of a page behind the first that is at hand; none where the store has no such slot.
     pub fn slot(&self, at: Addr) -> Option<&Slot>
+        requires { IsStoreSlot self.now.sizes at → IsAtHand self.now (at / 16) }
         ensures known { IsSome result ↔ IsStoreSlot self.now.sizes at }
         ensures bytes { IfSome result (λ slot. slot.now ≡ slot_at self.now.images at) }
         ensures slot { IfSome result (λ slot. IsSlotOf self.now.sizes (at / 16) (at % 16) slot.now) }
@@ -252,13 +243,13 @@ impl<P: PageDevice> Pages<P> {
         if page == 0 || page >= self.layout().pages() as u64 || at.slot() == 0 {
             return None;
         }
-        self.shows_framed();
         Some(self.slot_at_hand(at))
     }
 
-    /// Writes a slot, by the record of this LSN.
+    /// Writes a slot of a page that stands in a frame, by the record of this LSN.
     pub fn set_slot(&mut self, at: Addr, image: &Slot, lsn: Lsn)
         requires place { IsStoreSlot self.old.sizes at }
+        requires framed { IsFramed self.old.frames (at / 16) }
         requires image { IsSlotOf self.old.sizes (at / 16) (at % 16) image.now }
         ensures slots { (a : ℕ) → slots_in self.old.sizes self.new.images a
             ≡ put (slots_in self.old.sizes self.old.images) at (held_in self.old.sizes (at / 16) image.now) a }
@@ -271,7 +262,6 @@ impl<P: PageDevice> Pages<P> {
         ensures frames { (self.new.frames ≡ self.old.frames) × (self.new.apart ≡ self.old.apart) }
         ensures pool { IsPool self.new.sizes self.new.images }
     {
-        self.shows_framed();
         let _layout = self.layout();
         let number = at.page() as u32;
         let place = self.place(number);
@@ -283,7 +273,7 @@ impl<P: PageDevice> Pages<P> {
         note_group(&mut self.closed, &self.layout, page, at);
     }
 
-    /// Has the level of single slots apply a record to its page, where the page is older. The record writes the slot at this
+    /// Has the level of single slots apply a record to its page, which stands in a frame, where the page is older. The record writes the slot at this
     /// address. Whether it was applied.
     pub fn redo<B: Level>(
         &mut self,
@@ -294,6 +284,7 @@ impl<P: PageDevice> Pages<P> {
     ) -> bool
         requires level { 0 < length levels.old }
         requires place { IsStoreSlot self.old.sizes at }
+        requires framed { IsFramed self.old.frames (at / 16) }
         requires write { IsRedoAt self.old.sizes at (redo_of «record».now) }
         ensures kept { levels.new ≡ levels.old }
         ensures page { AppliesOnce (redo_of «record».now) (image_at self.old.images (at / 16)) lsn result
@@ -305,7 +296,6 @@ impl<P: PageDevice> Pages<P> {
         ensures device { self.new.device ≡ self.old.device }
         ensures frames { (self.new.frames ≡ self.old.frames) × (self.new.apart ≡ self.old.apart) }
     {
-        self.shows_framed();
         let _layout = self.layout();
         let number = at.page() as u32;
         let place = self.place(number);
@@ -404,16 +394,6 @@ impl<P: PageDevice> Pages<P> {
         }
     }
 
-    /// What the directory says of a sender.
-    pub fn group(&self, sender: u32) -> Directory
-        requires { sender < sender_count self.now.sizes }
-        ensures held { slots_in self.now.sizes self.now.images (directory_at sender) ≡ Sender sender result }
-        ensures fits { IsDirectoryOf self.now.sizes sender (record { sender = sender; directory = result }) }
-    {
-        self.shows_framed();
-        self.group_at_hand(sender)
-    }
-
     /// Whether a sender's group is closed, as its directory slot tells it. No page is read.
     pub fn is_closed(&self, sender: u32) -> bool
         requires { sender < sender_count self.now.sizes }
@@ -422,24 +402,14 @@ impl<P: PageDevice> Pages<P> {
         self.closed.has(sender as usize)
     }
 
-    /// What a client's slot holds.
+    /// What a client's slot holds, whose page is at hand.
     pub fn client(&self, client: u32) -> ClientSlot
-        requires { client < client_count self.now.sizes }
+        requires known { client < client_count self.now.sizes }
+        requires hand { IsAtHand self.now (client_slot_at self.now.sizes client / 16) }
         ensures { slots_in self.now.sizes self.now.images (client_slot_at self.now.sizes client) ≡ Client result }
     {
-        self.shows_framed();
         let at = self.layout().client_slot_of(client);
         ClientSlot::read(self.slot_at_hand(at))
-    }
-
-    /// The cell at an address; none where it is free.
-    pub fn cell(&self, at: Addr) -> Option<Cell>
-        requires { IsCellAddress self.now.sizes at }
-        ensures held { cell_in (slots_in self.now.sizes self.now.images at) ≡ result }
-        ensures fits { IfSome result (λ cell. IsCellOf self.now.sizes cell) }
-    {
-        self.shows_framed();
-        self.cell_at_hand(at)
     }
 
     /// The free cell with the lowest address, from this place among the cells on; none where each of these is used.

@@ -12,8 +12,8 @@ overflow_cast-page g c =
     let cells = range.cells_high in
     omega (arith, is, below, directory, cells)
 
-pub cell_at_hand-requires-clause-cell : goal.cell_at_hand-requires-clause-cell
-cell_at_hand-requires-clause-cell g c = subst (λ (z : Sizes). IsCellAddress z c.args.at) (sym (c.look.ensures.read.kept 0).sizes) c.requires
+pub cell-requires-clause-cell : goal.cell-requires-clause-cell
+cell-requires-clause-cell g c = subst (λ (z : Sizes). IsCellAddress z c.args.at) (sym (c.look.ensures.read.kept 0).sizes) c.requires
 
 pub returns-in-Ok-clause-fetched : goal.returns-in-Ok-clause-fetched
 returns-in-Ok-clause-fetched g c = fetched_as g.P.PageDevice _ _ _ _ c.args.self.now _ c.page.ensures c.in-Ok.ensures
