@@ -132,6 +132,7 @@ impl<P: PageDevice, L: LogDevice, B: Level> Engine<P, L, B> {
 
     // Has the pages of an operation fixed in their frames, takes the room of its records, and lets it begin. A page that makes way
     // and cannot be written out stops the store. Today each page stands in a frame, so `fix_all` refuses nothing.
+    #[inline(always)]
     pub(crate) fn launch(&mut self, txn: Txn, operation: Operation) -> Result<(), Refusal>
         requires ready { HasNothingUnderWay self.old.state txn operation.number }
         requires fits { FitsUnder self.old.state.sizes (under_of operation) }
@@ -168,6 +169,7 @@ impl<P: PageDevice, L: LogDevice, B: Level> Engine<P, L, B> {
 }
 
 // Takes the room of an operation's records, and lets it be under way. Answers how many records these are.
+#[inline(always)]
 fn enlist<L: LogDevice>(
     log: &mut Log<L>,
     transactions: &mut Transactions,
