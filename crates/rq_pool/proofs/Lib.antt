@@ -8,9 +8,11 @@ pub mod Slots
 pub mod Indexes
 pub mod Over
 pub mod Rewritten
+pub mod Dropped
 pub mod Growths
 pub mod KeptUp
 pub mod Fetched
 pub mod Wants
+pub mod Counting
 pub mod Holding
 pub mod Bringing

@@ -1,11 +1,12 @@
 -- How pages that are wanted at once are fixed in frames: first those that stand in some, then each other one.
-use Rattle.std.specs.Prelude.{◌≡◌, ◌⊎◌, ℕ, ◌+◌, ◌<◌, ◌≤◌, Bool, true, false, List, length, slice_index_or, slice_set}
+use Rattle.std.specs.Prelude.{◌≡◌, ◌⊎◌, ℕ, ◌+◌, ◌<◌, ◌≤◌, Bool, true, false, List, [], ◌∷◌, ◌++◌, length, slice_index_or, slice_set}
 use Rattle.rq_model.specs.declared.refusal.Refusal.{Refusal}
 use Rattle.rq_model.specs.declared.refusal.Refusal.TheVariants as why
 use Rattle.rq_model.specs.declared.refusal.Damage.TheVariants as damage
 use Rattle.rq_disk.specs.Device.PageAsk.{Reads, Writes}
 use Rattle.rq_disk.specs.declared.device.PageDevice.{Ghosts}
 use Rattle.rq_page.specs.Pages.{lsn_of}
+use Rattle.rq_page.specs.Sizes.{page_count}
 use Rattle.rq_pool.specs.Fetching.{HasFailed}
 use Rattle.rq_pool.specs.Held.{Held, IsFramed, IsSetAt, fixed_at, page_at}
 use Rattle.rq_pool.specs.KeptUp.{IsForced, IsKeptUp, IsStill}
@@ -87,3 +88,14 @@ pub record AreHadTo {P : Type 0} (g : Ghosts P) (forced : ℕ) (old new : Pooled
   pub had : (j : ℕ) → j < k → framed_in new.frames (slice_index_or ps j 0) ≡ true
   pub stand : (q : ℕ) → among ps q ≡ true → IsFramed old.frames q → IsFramed new.frames q
   pub faults : g.faults new.device ≡ g.faults old.device
+
+-- ---- fewer frames
+
+-- the last record of each page of the store is forced
+abbrev pub AreForcedTo : {P : Type 0} → Pooled P → ℕ → Type 0
+AreForcedTo pages forced = (p : ℕ) → p < page_count pages.sizes → lsn_of (image_at pages.images p) ≤ forced
+
+-- the last frame is gone
+pub record IsDropped (old new : List Held) : Type 0 where
+  pub last : Held
+  pub is : old ≡ new ++ last ∷ []

@@ -1,5 +1,5 @@
 -- Several pages that are wanted in frames at once.
-use Rattle.std.specs.Prelude.{◌≡◌, ℕ, cond, ◌<◌, ◌≤◌, ◌||◌, nat_eq, nat_lt, Bool, true, false, List, [], ◌∷◌, length, slice_index_or}
+use Rattle.std.specs.Prelude.{◌≡◌, ℕ, cond, ◌<◌, ◌≤◌, ◌||◌, nat_eq, nat_lt, Bool, true, false, List, [], ◌∷◌, ◌++◌, length, slice_index_or}
 use Rattle.std.specs.List.{sum_by}
 use Rattle.rq_model.specs.declared.refusal.Refusal.{Refusal}
 use Rattle.rq_model.specs.declared.refusal.Refusal.TheVariants as why
@@ -57,6 +57,20 @@ missing frames ps = sum_by (lack frames) (distinct ps)
 -- they outnumber those frames, of which none is ever empty
 abbrev pub CannotBeHad : {P : Type 0} → Pooled P → ℕ → List ℕ → Type 0
 CannotBeHad old forced ps = spare_for old.images forced ps old.frames < missing old.frames ps
+
+-- the page in a frame has to stay there: it is fixed, or the LSN of it is not forced
+abbrev pub has_to_stay : List (List ℕ) → ℕ → Held → Bool
+has_to_stay images forced h = h.fixed || nat_lt forced (lsn_of (image_at images h.page))
+
+-- the pages that have to
+abbrev pub staying : List (List ℕ) → ℕ → List Held → List ℕ
+staying images forced [] = []
+staying images forced (h ∷ hs) =
+    cond (has_to_stay images forced h) (h.page ∷ staying images forced hs) (staying images forced hs)
+
+-- these pages and those that have to stay are more, each counted once, than there are frames
+abbrev pub OutnumberFrames : {P : Type 0} → Pooled P → ℕ → List ℕ → Type 0
+OutnumberFrames old forced ps = length old.frames < length (distinct (ps ++ staying old.images forced old.frames))
 
 -- of each page but these, it is fixed in a frame exactly where it was
 pub record StayFixed (ps : List ℕ) (old new : List Held) : Type 0 where

@@ -20,8 +20,6 @@ use rq_page::client::ClientSlot;
 use rq_page::directory::{Directory, DirectorySlot};
 use rq_page::page::Page;
 
-// What reads a page that stands in no frame is for pools whose frames are few. Today each page stands in one, so no call comes there,
-// and by the invariant (`AllStand`) its contracts promise nothing yet.
 impl<P: PageDevice> Pages<P> {
     /// Has a page be at hand, in a frame or apart. What stands in no frame is read.
     ///

@@ -16,8 +16,6 @@ use rq_disk::PageDevice;
 use rq_model::refusal::Refusal;
 use rq_model::txn::Lsn;
 
-// A page is brought into a frame only where it stands in none. So today, as each page stands in one, no call comes to `replace`, nor
-// to what it calls: `loose`, `write_out`, `fetch` and `seat`.
 impl<P: PageDevice> Pages<P> {
     /// Has pages stand in frames and fixes them there; one may be named more than once. Others may give way, which are written out
     /// where they have a change.
@@ -154,9 +152,11 @@ impl<P: PageDevice> Pages<P> {
     }
 
     // Writes the page in a frame, whose LSN is forced, where it has a change.
-    fn write_out(&mut self, place: u32, forced: Lsn) -> Result<(), Refusal>
+    pub(crate) fn write_out(&mut self, place: u32, forced: Lsn) -> Result<(), Refusal>
         requires { IsLoose self.old.images forced self.old.frames place }
         ensures clean { OnOk result (is_changed self.new.changed (page_at self.old.frames place) ≡ false) }
+        ensures others { (p : ℕ) → p ≢ page_at self.old.frames place → is_changed self.new.changed p ≡ is_changed self.old.changed p }
+        ensures marks { OnErr result (self.new.changed ≡ self.old.changed) }
         ensures counted { OnOk result (P.faults self.new.device ≡ P.faults self.old.device) }
         ensures refused { IfErr result (λ e. (e ≡ Refusal.DiskWrite) × ((page : ℕ) × (image : List ℕ)
             × IsForced P.PageDevice forced self.new page image

@@ -17,10 +17,12 @@ ghost use Rattle.rq_pool.specs.Indexed.{TellsClosed};
 mod fetching;
 mod fixing;
 pub mod formatting;
+pub mod frame_count;
 mod frames;
 mod growing;
 mod notes;
 mod reading;
+mod shrinking;
 pub mod table;
 mod writing;
 
@@ -36,9 +38,7 @@ use rq_model::record::{Record, Slot};
 use rq_model::refusal::Refusal;
 use rq_model::txn::Lsn;
 use rq_page::addr::Addr;
-use rq_page::cell::Cell;
 use rq_page::client::ClientSlot;
-use rq_page::directory::Directory;
 use rq_page::layout::Layout;
 use rq_page::page::Page;
 use std::alloc::Global;
@@ -76,10 +76,9 @@ pub enum Written {
     Nothing,
 }
 
-/// The pages of a store. Contracts see the device, the sizes and all images. Of each page they see whether it was changed since it
-/// was read or written. Of each frame they see its page, and whether that is fixed there. One page more may stand apart, as it was
-/// read last. Today each page stands in a frame; by contract of a read (`look`) one may stand in none. The superblock is fixed for
-/// good in a frame of its own.
+/// The pages of a store. Contracts see the device, the sizes, the images of all pages, of each whether it was changed since it was
+/// read or written, which page stands in each frame and whether it is fixed there, and which one stands apart from them, as it was
+/// read last. The superblock is fixed in its frame for good.
 #[derive(Drop)]
 pub struct Pages<P: PageDevice> {
     device: P,
@@ -100,7 +99,7 @@ pub struct Pages<P: PageDevice> {
 
 impl<P: PageDevice> Model for Pages<P> {
     ghost use Rattle.rq_pool.specs.Pooled.{Pooled, AreOver};
-    ghost use Rattle.rq_pool.specs.Frames.{AllStand, AreTied, IsFirstFixed, MayBeApart, changed_of, frames_of, images_of, pages_of, places_of};
+    ghost use Rattle.rq_pool.specs.Frames.{AreTied, IsFirstFixed, MayBeApart, changed_of, frames_of, images_of, pages_of, places_of};
     ghost use Rattle.rq_pool.specs.Indexed.{IsIndex, closed_groups, free_cells};
 
     ghost Value = { Pooled P };
@@ -114,15 +113,13 @@ impl<P: PageDevice> Model for Pages<P> {
       apart = p.apart;
     } };
 
-    // The last part is so for now: no page stands outside.
     ghost invariant = { λ p. AreOver P.PageDevice p.device p.layout (images_of p.entries.items)
         (changed_of p.entries.items) × IsIndex (free_cells p.layout) p.layout (images_of p.entries.items) p.free
         × IsIndex (closed_groups p.layout) p.layout (images_of p.entries.items) p.closed
         × IsFirstFixed (frames_of p.frames.items)
         × AreTied (images_of p.entries.items) (changed_of p.entries.items) (places_of p.entries.items)
         (frames_of p.frames.items) (pages_of p.frames.items)
-        × MayBeApart (images_of p.entries.items) (places_of p.entries.items) p.apart p.spare
-        × AllStand (places_of p.entries.items) };
+        × MayBeApart (images_of p.entries.items) (places_of p.entries.items) p.apart p.spare };
 }
 
 /// Pages that could not be had: why, and their device.
@@ -135,6 +132,7 @@ pub struct RefusedPages<P> {
 }
 
 impl<P: PageDevice + Drop> Pages<P> {
+    ghost use Rattle.rq_pool.specs.Fetching.{AreAllFramed};
     ghost use Rattle.rq_pool.specs.Held.{IsFixed};
     ghost use Rattle.rq_pool.specs.Reading.{ArePages, AreSeen, OnlyRead, StopsFor, device_of};
 
@@ -148,6 +146,8 @@ impl<P: PageDevice + Drop> Pages<P> {
         ensures seen { IfOk result (λ pages. P.honest pages.device
             → AreSeen (P.seen device) pages.images (page_count pages.sizes)) }
         ensures changed { IfOk result (λ pages. pages.changed ≡ replicate (page_count pages.sizes) false) }
+        ensures framed { IfOk result (λ pages. AreAllFramed pages) }
+        ensures every { IfOk result (λ pages. length pages.frames ≡ page_count pages.sizes) }
         ensures loose { IfOk result (λ pages. (q : ℕ) → 1 ≤ q → IsFixed pages.frames q → ⊥) }
         ensures stopped { IfErr result (λ stopped. StopsFor P.PageDevice stopped.refusal device stopped.device) }
         ensures cause { OnOk result (P.faults (device_of result) ≡ P.faults device) }
@@ -196,7 +196,9 @@ impl<P: PageDevice> Pages<P> {
     ghost use Rattle.rq_pool.specs.Writing.{AnswersWhen, DeviceAfter, HasChangeBeyond, IsRedoAt, IsUnwritten, MayHaveSynced, NoChangeBeyond, changed_after};
     ghost use Rattle.rq_pool.specs.Held.{IsFixed, IsFramed, StandOnce};
     ghost use Rattle.rq_pool.specs.Pooled.{AreOver};
-    ghost use Rattle.rq_pool.specs.Fetching.{AreAllFramed};
+    ghost use Rattle.rq_pool.specs.Fetching.{IsAtHand};
+    ghost use Rattle.rq_pool.specs.Want.{CannotBeHad, OutnumberFrames};
+    ghost use Rattle.std.specs.Prelude.{List};
 
     /// What is so of the pages of each store, for proofs: it runs no code. Where the device has been honest, each page
     /// that doesn't count as changed reads there as its image.
@@ -206,17 +208,13 @@ impl<P: PageDevice> Pages<P> {
         let _layout = self.layout;
     }
 
-    /// Each page behind the superblock stands in a frame, so no read fails, for proofs: it runs no code.
-    pub fn shows_framed(&self)
-        ensures { AreAllFramed self.now }
-    {
-        let _layout = self.layout;
-    }
-
-    /// Each page stands in one frame at most, and the superblock is fixed in its own, for proofs: it runs no code.
+    /// Each page stands in one frame at most, and the superblock is fixed in its own. Pages cannot be had exactly where they and
+    /// those that have to stay are more than the frames. For proofs: it runs no code.
     pub fn shows_frames(&self)
         ensures once { StandOnce self.now.frames }
         ensures superblock { IsFixed self.now.frames 0 }
+        ensures counted { (forced : ℕ) (pages : List ℕ)
+            → CannotBeHad self.now forced pages ↔ OutnumberFrames self.now forced pages }
     {
         let _layout = self.layout;
     }
@@ -229,21 +227,21 @@ impl<P: PageDevice> Pages<P> {
         self.layout
     }
 
-    /// A page of the store; none where it has no such page.
+    /// A page of the store that is at hand; none where the store has no such page.
     pub fn page(&self, number: u32) -> Option<&Page>
+        requires { number < page_count self.now.sizes → IsAtHand self.now number }
         ensures known { IsSome result ↔ (number < page_count self.now.sizes) }
         ensures image { IfSome result (λ page. page.now ≡ image_at self.now.images number) }
     {
         if number >= self.layout().pages() {
             return None;
         }
-        self.shows_framed();
-        self.shows_frames();
         Some(self.at_hand(number))
     }
 
-    /// What stands at an address of a page behind the first; none where the store has no such slot.
+    /// What stands at an address of a page behind the first that is at hand; none where the store has no such slot.
     pub fn slot(&self, at: Addr) -> Option<&Slot>
+        requires { IsStoreSlot self.now.sizes at → IsAtHand self.now (at / 16) }
         ensures known { IsSome result ↔ IsStoreSlot self.now.sizes at }
         ensures bytes { IfSome result (λ slot. slot.now ≡ slot_at self.now.images at) }
         ensures slot { IfSome result (λ slot. IsSlotOf self.now.sizes (at / 16) (at % 16) slot.now) }
@@ -252,13 +250,13 @@ impl<P: PageDevice> Pages<P> {
         if page == 0 || page >= self.layout().pages() as u64 || at.slot() == 0 {
             return None;
         }
-        self.shows_framed();
         Some(self.slot_at_hand(at))
     }
 
-    /// Writes a slot, by the record of this LSN.
+    /// Writes a slot of a page that stands in a frame, by the record of this LSN.
     pub fn set_slot(&mut self, at: Addr, image: &Slot, lsn: Lsn)
         requires place { IsStoreSlot self.old.sizes at }
+        requires framed { IsFramed self.old.frames (at / 16) }
         requires image { IsSlotOf self.old.sizes (at / 16) (at % 16) image.now }
         ensures slots { (a : ℕ) → slots_in self.old.sizes self.new.images a
             ≡ put (slots_in self.old.sizes self.old.images) at (held_in self.old.sizes (at / 16) image.now) a }
@@ -271,7 +269,6 @@ impl<P: PageDevice> Pages<P> {
         ensures frames { (self.new.frames ≡ self.old.frames) × (self.new.apart ≡ self.old.apart) }
         ensures pool { IsPool self.new.sizes self.new.images }
     {
-        self.shows_framed();
         let _layout = self.layout();
         let number = at.page() as u32;
         let place = self.place(number);
@@ -283,8 +280,8 @@ impl<P: PageDevice> Pages<P> {
         note_group(&mut self.closed, &self.layout, page, at);
     }
 
-    /// Has the level of single slots apply a record to its page, where the page is older. The record writes the slot at this
-    /// address. Whether it was applied.
+    /// Has the level of single slots apply a record to its page, which stands in a frame, where the page is older. The record
+    /// writes the slot at this address. Whether it was applied.
     pub fn redo<B: Level>(
         &mut self,
         levels: &mut Levels<B>,
@@ -294,6 +291,7 @@ impl<P: PageDevice> Pages<P> {
     ) -> bool
         requires level { 0 < length levels.old }
         requires place { IsStoreSlot self.old.sizes at }
+        requires framed { IsFramed self.old.frames (at / 16) }
         requires write { IsRedoAt self.old.sizes at (redo_of «record».now) }
         ensures kept { levels.new ≡ levels.old }
         ensures page { AppliesOnce (redo_of «record».now) (image_at self.old.images (at / 16)) lsn result
@@ -305,7 +303,6 @@ impl<P: PageDevice> Pages<P> {
         ensures device { self.new.device ≡ self.old.device }
         ensures frames { (self.new.frames ≡ self.old.frames) × (self.new.apart ≡ self.old.apart) }
     {
-        self.shows_framed();
         let _layout = self.layout();
         let number = at.page() as u32;
         let place = self.place(number);

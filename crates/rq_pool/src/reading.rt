@@ -1,5 +1,5 @@
 //! Reads the pages of a device.
-ghost use Rattle.std.specs.Prelude.{ℕ, ◌≡◌, ◌↔◌, ◌<◌, ◌≤◌, ◌+◌, ◌%◌, ◌^◌, ◌++◌, ◌∷◌, [], false, nat_eq, replicate, IsTrue, IfOk, IfErr, OnOk, Some};
+ghost use Rattle.std.specs.Prelude.{ℕ, ◌≡◌, ◌↔◌, ◌<◌, ◌≤◌, ◌+◌, ◌%◌, ◌^◌, ◌++◌, ◌∷◌, [], false, length, nat_eq, replicate, IsTrue, IfOk, IfErr, OnOk, Some};
 ghost use Rattle.std.specs.Bool.{OnTrue};
 ghost use Rattle.rq_page.specs.Sizes.{page_count};
 ghost use Rattle.rq_page.specs.Kinds.{kind_of};
@@ -59,6 +59,7 @@ pub(crate) fn read_frames<P: PageDevice>(
     ensures tied { IfOk result (λ read. AreTied (images_of read.0.items) (changed_of read.0.items)
         (places_of read.0.items) (frames_of read.1.items) (pages_of read.1.items)) }
     ensures stand { IfOk result (λ read. AllStand (places_of read.0.items)) }
+    ensures every { IfOk result (λ read. length (frames_of read.1.items) ≡ page_count layout.now) }
     ensures first { IfOk result (λ read. IsFirstFixed (frames_of read.1.items)) }
     ensures loose { IfOk result (λ read. (q : ℕ) → 1 ≤ q → IsFixed (frames_of read.1.items) q → ⊥) }
     ensures free { IfOk result (λ read. IsIndex (free_cells layout.now) layout.now (images_of read.0.items) read.2) }

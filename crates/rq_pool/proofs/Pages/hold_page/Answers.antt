@@ -22,7 +22,6 @@ invariant_of-self g c =
       rw (c.hold.ensures.frames) (first_held _ c.in-Some.place c.args.number c.args.fixed i.3 page c.requires.low),
       rw (c.hold.ensures.frames, c.hold.ensures.pages) (held_tied _ _ _ _ _ tied c.in-Some.place c.args.fixed there.within),
       i.5,
-      i.6,
     )
 
 pub returns-in-Some-clause-frames : goal.returns-in-Some-clause-frames

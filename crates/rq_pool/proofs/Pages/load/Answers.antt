@@ -1,5 +1,6 @@
 use Rattle.rq_pool.proofs.Over.{over_loaded, pool_loaded}
 use Rattle.rq_pool.proofs.Readings.{only_read_on, stops_later}
+use Rattle.rq_pool.proofs.Ties.{all_framed}
 use Rattle.rq_pool.proofs.Pages.load.Goals as goal
 
 pub returns-in-Err-read_frames-clause-stopped : goal.returns-in-Err-read_frames-clause-stopped
@@ -10,8 +11,13 @@ pub invariant_of-result : goal.invariant_of-result
 invariant_of-result g c =
     let P = g.P.PageDevice in
     let r = c.in-Ok-read_frames.ensures in
-    (over_loaded P _ _ _ c.read_superblock.new.device c.read_frames.new.device (pool_loaded _ _ r.ok) r.changed r.seen r.device.same, r.free, r.closed, r.first, r.tied, tt, r.stand)
+    (over_loaded P _ _ _ c.read_superblock.new.device c.read_frames.new.device (pool_loaded _ _ r.ok) r.changed r.seen r.device.same, r.free, r.closed, r.first, r.tied, tt)
 
 pub returns-in-Ok-read_frames-clause-device : goal.returns-in-Ok-read_frames-clause-device
 returns-in-Ok-read_frames-clause-device g c =
     only_read_on g.P.PageDevice c.args.device c.read_superblock.new.device c.read_frames.new.device c.in-Ok.ensures.device c.in-Ok-read_frames.ensures.device
+
+pub returns-in-Ok-read_frames-clause-framed : goal.returns-in-Ok-read_frames-clause-framed
+returns-in-Ok-read_frames-clause-framed g c =
+    let r = c.in-Ok-read_frames.ensures in
+    λ p behind lt. all_framed _ _ _ _ _ r.tied r.stand p (rw (r.ok.count) lt)

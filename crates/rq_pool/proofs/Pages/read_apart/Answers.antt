@@ -31,7 +31,6 @@ invariant_of-self g c =
       i.3,
       rw (set.images, set.changed, set.places) (tied_read _ _ _ _ _ i.4 n page none),
       rw (set.images, set.places) (record { high = rw (length-set images n page) within; none = none; is = sym (get_or-set_same images n page [] within) }),
-      rw (set.places) i.6,
     )
 
 pub returns-in-Ok-clause-fetched : goal.returns-in-Ok-clause-fetched

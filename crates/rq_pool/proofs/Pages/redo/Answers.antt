@@ -42,7 +42,6 @@ invariant_of-self g c =
       rw (made.frames) i.3,
       rw (im, ch, pl, made.frames, pg) (tied_page z images changed _ _ _ i.4 i.0.pool n place c.args.at b wrote.0 c.args.lsn c.page-number.ensures placed low high wrote.1 wrote.2),
       rw (im, pl) (apart_page z images changed _ _ _ i.4 i.0.pool n place c.args.at b wrote.0 c.args.lsn c.page-number.ensures placed low high wrote.1 wrote.2 s.apart s.spare i.5),
-      rw pl i.6,
     )
 
 pub returns-then-made-clause-page : goal.returns-then-made-clause-page

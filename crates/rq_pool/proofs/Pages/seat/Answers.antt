@@ -8,7 +8,6 @@ use Rattle.rq_pool.proofs.Tabled.{read_at}
 use Rattle.rq_pool.proofs.Ties.{first_set, tied_put}
 use Rattle.rq_pool.proofs.Pages.seat.Goals as goal
 
--- as each page stands in a frame, no page is brought into one
 pub invariant_of-self : goal.invariant_of-self
 invariant_of-self g c =
     let i = c.self.invariant in
@@ -36,5 +35,4 @@ invariant_of-self g c =
       rw (c.put.ensures.frames) (first_set frames place _ i.3 behind),
       rw (im, ch, pl, c.put.ensures.frames, c.put.ensures.pages) (tied_put images (changed_of s.entries.items) places frames (pages_of s.frames.items) tied place number s.spare lt clean (rw tied.count apart.high) apart.none apart.is),
       tt,
-      absurd (i.6 number (rw tied.count apart.high) apart.none),
     )

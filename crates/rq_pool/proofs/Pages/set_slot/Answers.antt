@@ -45,7 +45,6 @@ invariant_of-self g c =
       rw (wrote.frames) i.3,
       rw (im, ch, pl, wrote.frames, pg) (tied_page z images changed _ _ _ i.4 i.0.pool n place c.args.at b c.args.image.now c.args.lsn c.page-number.ensures placed low high fits slot),
       rw (im, pl) (apart_page z images changed _ _ _ i.4 i.0.pool n place c.args.at b c.args.image.now c.args.lsn c.page-number.ensures placed low high fits slot s.apart s.spare i.5),
-      rw pl i.6,
     )
 
 pub returns : goal.returns

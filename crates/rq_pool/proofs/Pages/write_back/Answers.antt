@@ -35,7 +35,6 @@ invariant_of-self g c =
             | inr other ↦ sym (get_or-set_other changed n p false false other) ∙ e
           ])),
       rw (m.images, m.places) i.5,
-      rw (m.places) i.6,
     )
 
 pub returns-in-Ok-clause-answer : goal.returns-in-Ok-clause-answer

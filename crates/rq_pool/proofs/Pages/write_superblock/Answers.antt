@@ -13,7 +13,6 @@ invariant_of-self g c =
       i.3,
       rw (m.images, m.changed, m.places) (tied_marked _ _ _ _ _ 0 0 i.4 (first_placed _ _ _ _ _ i.4 i.3)),
       rw (m.images, m.places) i.5,
-      rw (m.places) i.6,
     )
 
 pub returns-clause-device : goal.returns-clause-device

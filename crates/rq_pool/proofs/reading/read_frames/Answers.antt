@@ -1,11 +1,11 @@
-use Rattle.std.proofs.Common.{◌≡◌, ◌∙◌, ◌++◌, ◌∷◌, [], ℕ, List, Bool, Option, Some, false, nat_eq, ap, arith, refl, replicate, rules, subst, sym, true}
-use Rattle.std.proofs.lemmas.List.{replicate_more}
+use Rattle.std.proofs.Common.{◌≡◌, ◌∙◌, ◌++◌, ◌∷◌, [], ℕ, List, length, Bool, Option, Some, false, nat_eq, ap, arith, refl, replicate, rules, subst, sym, true}
+use Rattle.std.proofs.lemmas.List.{length-map, replicate_more}
 use Rattle.rq_model.specs.declared.refusal.Refusal.TheVariants as why
 use Rattle.rq_disk.specs.Device.{Images}
 use Rattle.rq_page.specs.Sizes.{page_count}
 use Rattle.rq_pool.specs.declared.Entry.{Entry}
 use Rattle.rq_pool.specs.declared.Frame.{Frame}
-use Rattle.rq_pool.specs.Frames.{frames_of, images_of, pages_of, places_of}
+use Rattle.rq_pool.specs.Frames.{frames_of, held_of, images_of, page_in, pages_of, places_of}
 use Rattle.rq_pool.specs.Held.{Held}
 use Rattle.rq_pool.specs.Indexed.{closed_groups, free_cells}
 use Rattle.rq_pool.specs.Reading.{IsSuperblock, StopsFor}
@@ -132,3 +132,13 @@ loop-number-init g c =
       faults = refl;
       device = search rules;
     }
+
+pub returns-clause-every : goal.returns-clause-every
+returns-clause-every g c =
+    let i = c.loop-number.invariant in
+    let all : c.loop-number.number ≡ page_count c.args.layout.now = (let low = c.loop-number-test.false in let high = c.loop-number.auto.number-end in let n = c.pages-count.ensures.number in omega (arith, low, high, n)) in
+    let held = length-map c.loop-number.frames.items held_of in
+    let pages = length-map c.loop-number.frames.items page_in in
+    let same = ap length i.pages in
+    let count = i.read.count in
+    omega (arith, all, held, pages, same, count)

@@ -1,4 +1,4 @@
-use Rattle.std.proofs.Common.{ap, refl}
+use Rattle.std.proofs.Common.{ap}
 use Rattle.std.proofs.Math.Seq.{map-set_same}
 use Rattle.rq_pool.specs.Frames.{image_of, place_in, was_changed}
 use Rattle.rq_pool.proofs.Tabled.{set_at}
