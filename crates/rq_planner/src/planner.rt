@@ -7,7 +7,8 @@ ghost use Rattle.rq_views.specs.Stored.{IsStoreSlot, slot_at, slots_in};
 ghost use Rattle.rq_level.specs.Asked.{deed_back, job_back};
 ghost use Rattle.rq_level.specs.Writes.{AreSlotWrites, answer_of};
 ghost use Rattle.rq_level.specs.Meaning.{AppliesOnce, AreTold, redo_of};
-ghost use Rattle.rq_pool.specs.Fetching.{HasReadFor, IsUnread, ReadsTruly};
+ghost use Rattle.rq_pool.specs.Fetching.{HasReadFor, IsAtHand, IsUnread, ReadsTruly};
+ghost use Rattle.rq_pool.specs.Held.{IsFramed};
 ghost use Rattle.rq_pool.specs.Pooled.{image_at};
 ghost use Rattle.rq_pool.specs.Writing.{IsRedoAt};
 ghost use Rattle.rq_planner.specs.Answered.{IsAnsweredBack, IsAnsweredFor, IsPlannedAlone, IsPlannedBy, KnowsCells, level_back};
@@ -88,9 +89,10 @@ impl<B: Level> Planner<B> {
         self.levels.noted(at, bytes);
     }
 
-    /// The slot at this address may have been written. Takes no memory.
+    /// The slot at this address, whose page is at hand, may have been written. Takes no memory.
     pub fn renew<P: PageDevice>(&mut self, pages: &Pages<P>, at: Addr)
-        requires { IsStoreSlot pages.now.sizes at }
+        requires slot { IsStoreSlot pages.now.sizes at }
+        requires hand { IsAtHand pages.now (at / 16) }
         ensures { AreTold at (slot_at pages.now.images at) self.old self.new }
     {
         self.levels.noted(at, pages.slot(at).unwrap());
@@ -263,6 +265,7 @@ impl<B: Level> Planner<B> {
         record: &Record,
     ) -> bool
         requires place { IsStoreSlot pages.old.sizes at }
+        requires framed { IsFramed pages.old.frames (at / 16) }
         requires write { IsRedoAt pages.old.sizes at (redo_of «record».now) }
         ensures same { self.new ≡ self.old }
         ensures page { AppliesOnce (redo_of «record».now) (image_at pages.old.images (at / 16)) lsn result

@@ -238,6 +238,7 @@ fn tell_sizes<P: PageDevice, B: Level>(pages: &Pages<P>, levels: &mut Levels<B>)
     ensures ready { (i : ℕ) → i < length levels.new → (meaning_of i).ready pages.now.sizes (kept_at levels.new i) }
 {
     pages.shows_kept();
+    pages.shows_frames();
     let superblock = pages.page(0).unwrap();
     levels.noted(Addr::new(0, 1), superblock.slot(1));
 }

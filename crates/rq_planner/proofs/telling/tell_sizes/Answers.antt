@@ -1,9 +1,14 @@
-use Rattle.std.proofs.Common.{◌≡◌, sym, subst}
+use Rattle.std.proofs.Common.{◌≡◌, sym, subst, inl}
 use Rattle.rq_page.specs.Formatted.{IsFormatted}
 use Rattle.rq_pool.specs.Pooled.{image_at}
 use Rattle.rq_planner.proofs.Options.{some_told}
 use Rattle.rq_planner.proofs.Told.{ready_told}
 use Rattle.rq_planner.proofs.telling.tell_sizes.Goals as goal
+
+pub page-requires : goal.page-requires
+page-requires g c =
+    let fixed = c.shows_frames.ensures.superblock in
+    λ known. inl (record { at = fixed.at; within = fixed.within; is = fixed.is })
 
 pub returns-clause-ready : goal.returns-clause-ready
 returns-clause-ready g c =
