@@ -1,5 +1,5 @@
 -- Pages are fixed in frames exactly where operations under way have latched them.
-use Rattle.std.proofs.Common.{◌≡◌, ◌≢◌, ℕ, zero, suc, ◌+◌, ◌≤◌, ◌||◌, nat_eq, Bool, true, false, List, [], ◌∷◌, length, refl, sym, ◌∙◌, ap, subst, Option, Some, None, inl, inr, ◌⊎◌, arith}
+use Rattle.std.proofs.Common.{◌≡◌, ◌≢◌, ℕ, zero, suc, ◌+◌, ◌/◌, ◌≤◌, ◌||◌, nat_eq, Bool, true, false, List, [], ◌∷◌, length, refl, sym, ◌∙◌, ap, subst, Option, Some, None, inl, inr, ◌⊎◌, arith}
 use Rattle.std.proofs.lemmas.Bool.{cases_Bool, eqb-true, false≢true, true≢false, or_cases, or_left, or_right}
 use Rattle.std.proofs.lemmas.Option.{same_Some}
 use Rattle.rq_model.specs.declared.txn.Txn.{Txn}
@@ -12,17 +12,18 @@ use Rattle.rq_level.specs.Given.{has_page}
 use Rattle.rq_level.specs.Writes.{AreSlotWrites}
 use Rattle.rq_txn.specs.Rows.{AreDistinct, Row, Under, change_row, change_row_one, found_row, fresh_row, latched_by, latched_in, latched_under, row_aborting, row_started, row_stepped, under_stepped, without_row}
 use Rattle.rq_txn.proofs.Finding.{without_first, without_later}
-use Rattle.rq_pool.specs.Held.{Held, IsFixed}
+use Rattle.rq_pool.specs.Held.{Held, IsFixed, IsFramed}
 use Rattle.rq_pool.specs.Want.{AreOfStore, NoneFixed, StayFixed, among}
 use Rattle.rq_store.proofs.RowLists.{changed, found_in, gone, unique}
 use Rattle.rq_sound.specs.Standing.{AreApart}
+use Rattle.rq_sound.proofs.Going.{page_latched}
 use Rattle.rq_engine.specs.Frames.{AreFixedAsLatched, pages_of}
 use Rattle.rq_model.specs.declared.txn.Sub.{Sub}
 use Rattle.rq_model.specs.Legal.{OnFound}
 use Rattle.rq_store.specs.State.{State}
 use Rattle.rq_engine.specs.Answers.{IsUnderWay, OnUnder}
 use Rattle.rq_engine.specs.Invariant.{IsConsistent}
-use Rattle.rq_engine.proofs.Calls.{going_of}
+use Rattle.rq_engine.proofs.Calls.{Next, going_of, next_slot}
 use Rattle.rq_engine.proofs.Keeping.{under_at}
 use Rattle.rq_engine.proofs.Refusals.{found_of, on_found}
 
@@ -313,3 +314,16 @@ module _ (s : State) (f : Bool) (o res : ℕ) (k : IsConsistent s f o res) (sub 
       let g = going_of s sub (λ r u. ps ≡ pages_of u.writes) named in
       fixed_ended sub.txn to s.rows g.row k.distinct g.found g.under g.is (ends g.row) old new
       (subst (λ (l : List ℕ). NoneFixed l new) g.so none) (subst (λ (l : List ℕ). StayFixed l old new) g.so stay) fixed
+
+-- the page of the write that it makes next stands in a frame
+module _ (s : State) (f : Bool) (o res : ℕ) (k : IsConsistent s f o res) (sub : Sub) (w : SlotWrite) (h : IsUnderWay s sub (Next w)) where
+  pub next_framed : (frames : List Held) → AreFixedAsLatched s.rows frames → IsFramed frames (w.at / 16)
+  next_framed frames are =
+      let g = going_of s sub (Next w) h in
+      let latched = row_latched s.rows g.row (w.at / 16) (found_in sub.txn s.rows g.row g.found).0 (ap (λ (u : Option Under). latched_under u (w.at / 16)) g.is ∙ page_latched g.under.writes g.under.made w g.so) in
+      let fixed = are.fixed (w.at / 16) (next_slot s f o res k sub w h).place.page_low latched in
+      record { at = fixed.at; within = fixed.within; is = fixed.is }
+
+-- where nothing is under way, no page is fixed but the superblock
+pub none_under : (rows : List Row) (frames : List Held) → rows ≡ [] → AreFixedAsLatched rows frames → (q : ℕ) → 1 ≤ q → IsFixed frames q → ⊥
+none_under rows frames none are q low fixed = false≢true (sym (ap (λ (r : List Row). latched_in r q) none) ∙ are.latched q low fixed)

@@ -27,7 +27,7 @@ use Rattle.rq_engine.specs.KeptUp.{AreButRead, KeepsDevices, KeepsUp, RefusalCou
 use Rattle.rq_engine.specs.Frames.{IsForFrames, NotBegun}
 use Rattle.rq_level.specs.LevelState.{LevelState}
 use Rattle.rq_planner.proofs.Knowing.{knows_kept}
-use Rattle.rq_pool.specs.Want.{NotFixed}
+use Rattle.rq_pool.specs.Want.{NotFixed, CannotBeHad, OutnumberFrames}
 use Rattle.rq_engine.specs.Lists.{DoesTask, IsStarted}
 use Rattle.rq_engine.specs.Opened.{AreHonest, LeavesDevices, OpenStore, pooled}
 use Rattle.rq_engine.specs.Plans.{Planned, under_plan, is_latched}
@@ -228,9 +228,9 @@ module _ {P : Type 0} (g : page_device.Ghosts P) (forced : ℕ) (ps : List ℕ) 
   not_fixed_causes old new (why.Damaged (Page p)) n = n.1
   not_fixed_causes old new _ n = absurd n
 
-  pub not_fixed_frames : (X : Type 0) (old new : Pooled P) (r : Refusal) → NotFixed g forced ps r old new → IsForFrames {X = X} old forced ps (Err r)
-  not_fixed_frames X old new why.PoolFull n = n.0
-  not_fixed_frames X old new _ n = tt
+  pub not_fixed_frames : (X : Type 0) (old new : Pooled P) (r : Refusal) → (CannotBeHad old forced ps → OutnumberFrames old forced ps) → NotFixed g forced ps r old new → IsForFrames {X = X} old forced ps (Err r)
+  not_fixed_frames X old new why.PoolFull counted n = counted n.0
+  not_fixed_frames X old new _ counted n = tt
 
 pub not_fixed_counts : {P L : Type 0} (g : page_device.Ghosts P) (ps : List ℕ) (old new : OpenStore P L) (r : Refusal) → NotFixed g old.state.forced ps r (pooled old) (pooled new) → RefusalCounts g r old new
 not_fixed_counts g ps old new why.PoolFull n = n.1

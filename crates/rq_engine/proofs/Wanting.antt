@@ -1,8 +1,7 @@
 -- Frames that a start needs.
-use Rattle.std.proofs.Common.{◌≡◌, ℕ, suc, ◌+◌, ◌<◌, ◌||◌, nat_lt, List, [], ◌∷◌, length, Option, Some, None, option_map, refl, ap, subst, ◌∙◌, arith, Result, Ok, Err, IsTrue}
+use Rattle.std.proofs.Common.{◌≡◌, ℕ, suc, ◌+◌, ◌<◌, ◌||◌, ◌++◌, cond, nat_lt, List, [], ◌∷◌, length, Option, Some, None, option_map, refl, ap, subst, ◌∙◌, arith, Result, Ok, Err, IsTrue}
 use Rattle.std.specs.Prelude.{OnOk}
 use Rattle.std.proofs.lemmas.Bool.{false≢true}
-use Rattle.std.proofs.lemmas.List.Sums.{sum_by-cons}
 use Rattle.rq_disk.specs.declared.device.PageDevice as page_device
 use Rattle.rq_model.specs.declared.refusal.Refusal.{Refusal}
 use Rattle.rq_model.specs.declared.refusal.Refusal.TheVariants as why
@@ -19,7 +18,7 @@ use Rattle.rq_planner.specs.Asked.Task.{Chain, Tag}
 use Rattle.rq_planner.specs.Lawful.{MayRefuse}
 use Rattle.rq_pool.specs.Held.{Held, page_at}
 use Rattle.rq_pool.specs.Pooled.{image_at}
-use Rattle.rq_pool.specs.Want.{among, missing, one_unless, spare_for, spare_one}
+use Rattle.rq_pool.specs.Want.{distinct, has_to_stay, staying}
 use Rattle.rq_store.specs.Plans.{IsSendPlan, IsTakePlan, WaitsFor}
 use Rattle.rq_store.specs.State.{State}
 use Rattle.rq_sound.specs.Groups.{slots_now}
@@ -44,15 +43,13 @@ use Rattle.rq_engine.proofs.KeptUp.{read_state}
 use Rattle.rq_engine.proofs.Leveled.{close_plan, mark_plan, send_plan, take_plan}
 use Rattle.rq_engine.proofs.Refusals.{found_of, on_found}
 
--- frames are counted by what stands in them
-spare_same : (old new : List (List ℕ)) (forced : ℕ) (ps : List ℕ) (hs : List Held) → ((i : ℕ) → i < length hs → image_at new (page_at hs i) ≡ image_at old (page_at hs i)) → spare_for new forced ps hs ≡ spare_for old forced ps hs
-spare_same old new forced ps [] same = refl
-spare_same old new forced ps (h ∷ hs) same =
-    let one : spare_one new forced ps h ≡ spare_one old forced ps h = ap (λ (l : List ℕ). one_unless (h.fixed || (among ps h.page || nat_lt forced (lsn_of l)))) (same 0 (omega arith)) in
-    let rest = spare_same old new forced ps hs (λ i lt. same (suc i) (omega (arith, lt))) in
-    let a = sum_by-cons (spare_one new forced ps) h hs in
-    let b = sum_by-cons (spare_one old forced ps) h hs in
-    omega (arith, one, rest, a, b)
+-- what has to stay is told by what stands in frames
+staying_same : (old new : List (List ℕ)) (forced : ℕ) (hs : List Held) → ((i : ℕ) → i < length hs → image_at new (page_at hs i) ≡ image_at old (page_at hs i)) → staying new forced hs ≡ staying old forced hs
+staying_same old new forced [] same = refl
+staying_same old new forced (h ∷ hs) same =
+    let one : has_to_stay new forced h ≡ has_to_stay old forced h = ap (λ (l : List ℕ). h.fixed || nat_lt forced (lsn_of l)) (same 0 (omega arith)) in
+    let rest = staying_same old new forced hs (λ i lt. same (suc i) (omega (arith, lt))) in
+    ap (λ (l : List ℕ). cond (has_to_stay new forced h) (h.page ∷ l) l) rest ∙ ap (λ b. cond b (h.page ∷ staying old forced hs) (staying old forced hs)) one
 
 under_more : (n : ℕ) (P Q : Row → Under → Type 0) → ((r : Row) (u : Under) → P r u → Q r u) → (o : Option Row) → OnFound o (λ r. OnUnder n P r r.under) → OnFound o (λ r. OnUnder n Q r r.under)
 under_more n P Q more None h = h
@@ -71,20 +68,23 @@ begun_is old rows t u P ready is holds =
 
 -- pages were perhaps read before
 module _ {P L : Type 0} (g : page_device.Ghosts P) (old mid : OpenStore P L) (read : HasReadPages g old mid) where
-  spare_read : (ps : List ℕ) → spare_for mid.state.images mid.state.forced ps mid.frames ≡ spare_for old.state.images old.state.forced ps old.frames
-  spare_read ps =
-      ap (λ (s : State). spare_for mid.state.images s.forced ps mid.frames) read.lists ∙ ap (λ (l : List Held). spare_for mid.state.images old.state.forced ps l) read.pages.frames
-      ∙ spare_same old.state.images mid.state.images old.state.forced ps old.frames (λ i lt. read.pages.held (page_at old.frames i) (record { at = i; within = lt; is = refl }))
-
-  missing_read : (ps : List ℕ) → missing mid.frames ps ≡ missing old.frames ps
-  missing_read ps = ap (λ (l : List Held). missing l ps) read.pages.frames
+  staying_read : staying mid.state.images mid.state.forced mid.frames ≡ staying old.state.images old.state.forced old.frames
+  staying_read =
+      ap (λ (s : State). staying mid.state.images s.forced mid.frames) read.lists ∙ ap (λ (l : List Held). staying mid.state.images old.state.forced l) read.pages.frames
+      ∙ staying_same old.state.images mid.state.images old.state.forced old.frames (λ i lt. read.pages.held (page_at old.frames i) (record { at = i; within = lt; is = refl }))
 
   -- that changes nothing of it
   lacks_before : (ws : List SlotWrite) → LacksFrames mid ws → LacksFrames old ws
-  lacks_before ws lacks = (let a = spare_read (pages_of ws) in let b = missing_read (pages_of ws) in omega (arith, a, b, lacks))
+  lacks_before ws lacks =
+      let a : length (distinct (pages_of ws ++ staying mid.state.images mid.state.forced mid.frames)) ≡ length (distinct (pages_of ws ++ staying old.state.images old.state.forced old.frames)) = ap (λ (l : List ℕ). length (distinct (pages_of ws ++ l))) staying_read in
+      let b = ap (λ (l : List Held). length l) read.pages.frames in
+      omega (arith, a, b, lacks)
 
   lacks_after : (ws : List SlotWrite) → LacksFrames old ws → LacksFrames mid ws
-  lacks_after ws lacks = (let a = spare_read (pages_of ws) in let b = missing_read (pages_of ws) in omega (arith, a, b, lacks))
+  lacks_after ws lacks =
+      let a : length (distinct (pages_of ws ++ staying mid.state.images mid.state.forced mid.frames)) ≡ length (distinct (pages_of ws ++ staying old.state.images old.state.forced old.frames)) = ap (λ (l : List ℕ). length (distinct (pages_of ws ++ l))) staying_read in
+      let b = ap (λ (l : List Held). length l) read.pages.frames in
+      omega (arith, a, b, lacks)
 
   module _ {X : Type 0} where
     -- what was planned begins, or does not

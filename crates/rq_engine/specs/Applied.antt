@@ -181,9 +181,11 @@ FramesSay honest old (event.StartReceive txn) r new =
 FramesSay honest old (event.StartReceiveFrom txn sender) r new =
     FramesReply (λ ws. honest → AreWritesOf old.state (λ u. IsTakePlan old.state.sizes (slots_now old.state) u sender) ws) old r new
 FramesSay honest old (event.StartClose txn sender) r new =
-    FramesReply (λ ws. honest → AreWritesOf old.state (λ u. IsClosePlan old.state.sizes (slots_now old.state) u sender) ws) old r new
+    FramesReply (λ ws. honest → AreWritesOf old.state
+    (λ u. IsClosePlan old.state.sizes (slots_now old.state) u sender) ws) old r new
 FramesSay honest old (event.StartMark txn client tag) r new =
-    FramesReply (λ ws. honest → AreWritesOf old.state (λ u. IsMarkPlan old.state.sizes (slots_now old.state) u client tag) ws) old r new
+    FramesReply (λ ws. honest → AreWritesOf old.state
+    (λ u. IsMarkPlan old.state.sizes (slots_now old.state) u client tag) ws) old r new
 FramesSay honest old (event.UndoNext txn) r new =
     FramesReply (λ ws. honest → AreWritesOf old.state (IsUndoOf old.state txn) ws) old r new
 FramesSay honest old _ r new = Unit {0}

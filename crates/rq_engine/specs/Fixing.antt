@@ -5,16 +5,17 @@ use Rattle.rq_model.specs.declared.refusal.Refusal.TheVariants as why
 use Rattle.rq_model.specs.declared.txn.Sub.{Sub}
 use Rattle.rq_level.specs.declared.writes.SlotWrite.{SlotWrite}
 use Rattle.rq_txn.specs.Rows.{Under}
-use Rattle.rq_pool.specs.Want.{CannotBeHad}
+use Rattle.rq_pool.specs.Want.{OutnumberFrames}
 use Rattle.rq_store.specs.State.{State}
 use Rattle.rq_sound.specs.Plans.{AreUnlatched}
 use Rattle.rq_engine.specs.Answers.{IsUnderWay}
 use Rattle.rq_engine.specs.Frames.{pages_of}
 use Rattle.rq_engine.specs.Opened.{OpenStore, pooled}
 
--- frames for the pages of these writes cannot be had
+-- Frames for the pages of these writes cannot be had: they, and those that have to stay in frames, are more than the frames. What
+-- has to stay is fixed there, or has an LSN that is not forced. The superblock and its frame are counted, too.
 abbrev pub LacksFrames : {P L : Type 0} → OpenStore P L → List SlotWrite → Type 0
-LacksFrames s ws = CannotBeHad (pooled s) s.state.forced (pages_of ws)
+LacksFrames s ws = OutnumberFrames (pooled s) s.state.forced (pages_of ws)
 
 -- the operation is under way, and frames for its pages could be had
 abbrev pub HadFrames : {P L : Type 0} → OpenStore P L → Sub → State → Type 0

@@ -43,9 +43,9 @@ use std::alloc::Global;
 use std::marker::Model;
 
 /// A store that is open, with what is under way in it. Contracts see its two devices, which pages have a change that
-/// was not written, and its `State`. The state has the sizes, the rows of transactions that have not ended, the ends
-/// that they hold, and the images of the pages. It also has the records of the log, how many are forced, whether the
-/// store has failed, and the counts that it keeps.
+/// was not written, which stand in frames, and its `State`. The state has the sizes, the rows of transactions that have
+/// not ended, the ends that they hold, and the images of the pages. It also has the records of the log, how many are
+/// forced, whether the store has failed, and the counts that it keeps.
 #[derive(Drop)]
 pub struct Engine<P: PageDevice, L: LogDevice, B: Level> {
     pub(crate) alloc: Global,

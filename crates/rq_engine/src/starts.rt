@@ -131,7 +131,7 @@ impl<P: PageDevice, L: LogDevice, B: Level> Engine<P, L, B> {
     }
 
     // Has the pages of an operation fixed in their frames, takes the room of its records, and lets it begin. A page that makes way
-    // and cannot be written out stops the store. Today each page stands in a frame, so `fix_all` refuses nothing.
+    // and cannot be written out stops the store.
     #[inline(always)]
     pub(crate) fn launch(&mut self, txn: Txn, operation: Operation) -> Result<(), Refusal>
         requires ready { HasNothingUnderWay self.old.state txn operation.number }
@@ -147,6 +147,7 @@ impl<P: PageDevice, L: LogDevice, B: Level> Engine<P, L, B> {
         ensures causes { IfErr result (NotBegun (P.honest self.new.pages)) }
         ensures frames { IsForFrames (pooled self.old) self.old.state.forced (pages_of operation.writes.items) result }
     {
+        self.pages.shows_frames();
         let pages = PageNumbers::of(&operation.writes);
         match self.pages.fix_all(pages.as_slice(), self.log.forced()) {
             Ok(()) => {}

@@ -1,4 +1,4 @@
-use Rattle.std.proofs.Common.{◌≡◌, ◌+◌, ◌*◌, ℕ, List, true, ap, length, refl, subst, sym, ◌∙◌}
+use Rattle.std.proofs.Common.{◌≡◌, ◌+◌, ◌*◌, ℕ, Err, List, true, ap, length, refl, subst, sym, ◌∙◌}
 use Rattle.rq_pool.specs.Held.{IsFixed}
 use Rattle.rq_pool.specs.Want.{NoneFixed, StayFixed, among}
 use Rattle.rq_pool.proofs.KeptUp.{kept_still, kept_then}
@@ -6,12 +6,13 @@ use Rattle.rq_sound.specs.Plans.{AreUnlatched}
 use Rattle.rq_store.specs.State.{State}
 use Rattle.rq_txn.specs.Rows.{under_of}
 use Rattle.rq_engine.specs.Answers.{HasNothingUnderWay}
-use Rattle.rq_engine.specs.Frames.{pages_of}
+use Rattle.rq_engine.specs.Frames.{IsForFrames, pages_of}
+use Rattle.rq_engine.specs.Opened.{OpenStore, pooled}
 use Rattle.rq_engine.specs.Invariant.{end_bytes}
 use Rattle.rq_engine.specs.Sends.{FitsUnder, HasRoom}
 use Rattle.rq_engine.proofs.Frames.{fixed_left, fixed_start, none_fixed, pages_stored, stay_then}
 use Rattle.rq_engine.proofs.Keeping.{kept_device, kept_read}
-use Rattle.rq_engine.proofs.KeptUp.{knows_kept_up, not_failed_by, not_fixed_counts}
+use Rattle.rq_engine.proofs.KeptUp.{knows_kept_up, not_failed_by, not_fixed_counts, not_fixed_frames}
 use Rattle.rq_engine.proofs.SendCalls.{start_kept}
 use Rattle.rq_engine.proofs.Opened.{state_is}
 use Rattle.rq_engine.proofs.engine.Engine.launch.Goals as goal
@@ -96,3 +97,18 @@ returns-in-Err-enlist-clause-devices g c =
       refl,
       refl,
     )
+
+pub returns-in-Err-clause-frames : goal.returns-in-Err-clause-frames
+returns-in-Err-clause-frames g c =
+    let ps : c.as_slice.result.now ≡ pages_of c.args.operation.writes.items = c.as_slice.ensures ∙ c.of-pages.ensures ∙ ap pages_of c.deref.ensures.value in
+    let counted = (c.shows_frames.ensures.counted c.forced.result c.as_slice.result.now).0 in
+    subst (λ (o : OpenStore _ _). IsForFrames {X = Unit {0}} (pooled o) o.state.forced (pages_of c.args.operation.writes.items) (Err c.in-Err.refusal)) c.self.view_is
+    (subst (λ (n : ℕ). IsForFrames {X = Unit {0}} c.self.inside.pages n (pages_of c.args.operation.writes.items) (Err c.in-Err.refusal)) c.forced.ensures
+    (subst (λ (l : List ℕ). IsForFrames {X = Unit {0}} c.self.inside.pages c.forced.result l (Err c.in-Err.refusal)) ps
+    (not_fixed_frames g.P.PageDevice c.forced.result c.as_slice.result.now (Unit {0}) c.self.inside.pages c.fix_all.new.self c.in-Err.refusal counted c.in-Err.ensures.refused)))
+
+pub returns-in-Ok-enlist-clause-frames : goal.returns-in-Ok-enlist-clause-frames
+returns-in-Ok-enlist-clause-frames g c =
+    let ps : c.as_slice.result.now ≡ pages_of c.args.operation.writes.items = c.as_slice.ensures ∙ c.of-pages.ensures ∙ ap pages_of c.deref.ensures.value in
+    let counted = (c.shows_frames.ensures.counted c.forced.result c.as_slice.result.now).1 in
+    rw (← c.self.view_is, ← ps, ← c.forced.ensures) (λ more. c.in-Ok.ensures.had (counted more))

@@ -13,7 +13,7 @@ use Rattle.rq_engine.specs.Answers.{IsUnderWay}
 use Rattle.rq_engine.proofs.Calls.{Next, MakesNext, under_is, going_range, going_owed, next_slot, next_room, next_more, next_kept}
 use Rattle.rq_planner.proofs.Knowing.{knows_put}
 use Rattle.rq_engine.proofs.Opened.{state_is, changed_is}
-use Rattle.rq_engine.proofs.Frames.{fixed_stepped}
+use Rattle.rq_engine.proofs.Frames.{fixed_stepped, next_framed}
 use Rattle.rq_engine.proofs.engine.Engine.make_next.Goals as goal
 
 pub append_page_op-lsn-requires-clause-record : goal.append_page_op-lsn-requires-clause-record
@@ -36,6 +36,12 @@ set_slot-requires-clause-place g c =
     let now = under_is _ _ (state_is c.self.view_is) c.args.sub _ c.in-Some.ensures (MakesNext c.in-Some-next_write.write.now) c.in-Some-next_write.ensures in
     let h = subst (λ (s : State). IsUnderWay s c.args.sub (Next c.in-Some-next_write.write.now)) (sym (state_is c.self.view_is)) now in
     (next_slot _ _ _ _ c.self.invariant.kept c.args.sub c.in-Some-next_write.write.now h).place
+
+pub set_slot-requires-clause-framed : goal.set_slot-requires-clause-framed
+set_slot-requires-clause-framed g c =
+    let now = under_is _ _ (state_is c.self.view_is) c.args.sub _ c.in-Some.ensures (MakesNext c.in-Some-next_write.write.now) c.in-Some-next_write.ensures in
+    let h = subst (λ (s : State). IsUnderWay s c.args.sub (Next c.in-Some-next_write.write.now)) (sym (state_is c.self.view_is)) now in
+    next_framed _ _ _ _ c.self.invariant.kept c.args.sub c.in-Some-next_write.write.now h c.self.inside.pages.frames c.self.invariant.frames_are
 
 pub set_slot-requires-clause-image : goal.set_slot-requires-clause-image
 set_slot-requires-clause-image g c =
