@@ -1,3 +1,5 @@
+pub mod Framing
+pub mod Fewer
 pub mod Going
 pub mod Restarts
 pub mod Parsing

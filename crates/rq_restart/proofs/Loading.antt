@@ -41,7 +41,7 @@ load_shut g z old new older _ log block h = absurd h
 pub shut_log : (left there : Type 0) (z y : Sizes) (older : List Record) → (left → there × (y ≡ z)) → (e : Refusal) (before now old new : ℕ) → MayBeShut there y older e old new → Stops left z older e before now old new
 shut_log left there z y older f why.NoMemory before now old new h = tt
 shut_log left there z y older f why.DiskRead before now old new h = inr h
-shut_log left there z y older f why.DiskWrite before now old new h = h
+shut_log left there z y older f why.DiskWrite before now old new h = inr h
 shut_log left there z y older f why.LogFull before now old new h = λ l. let k = f l in subst (λ x. IsAtBound x older) k.1 (h k.0)
 shut_log left there z y older f (why.Damaged d) before now old new h = λ l. h (f l).0
 shut_log left there z y older f _ before now old new h = absurd h

@@ -1,5 +1,6 @@
 -- What a restart answers, by what was made of its pages and its log.
-use Rattle.std.proofs.Common.{◌≡◌, ℕ, suc, ◌+◌, false, List, ◌∷◌, length, drop, replicate, inl, inr, refl, sym, ◌∙◌, ap, subst}
+use Rattle.std.proofs.Common.{◌≡◌, ◌⊎◌, ℕ, suc, ◌+◌, ◌≤◌, false, List, ◌∷◌, length, min, drop, replicate, inl, inr, refl, sym, ◌∙◌, ap, subst, arith}
+use Rattle.std.proofs.lemmas.Bool.{cases_lt}
 use Rattle.rq_model.specs.declared.record.Record.{Record}
 use Rattle.rq_model.specs.declared.refusal.Refusal.{Refusal}
 use Rattle.rq_model.specs.Bases.{earlier, marked}
@@ -11,11 +12,16 @@ use Rattle.rq_disk.specs.declared.device.PageDevice as page_device
 use Rattle.rq_groups.specs.Sent.{SentBy}
 use Rattle.rq_level.specs.LevelState.{LevelState}
 use Rattle.rq_log.specs.Logged.{Logged}
+use Rattle.rq_page.specs.Kinds.{kind_of}
+use Rattle.rq_page.specs.Pages.{lsn_of}
 use Rattle.rq_page.specs.Sizes.{Sizes, page_count}
+use Rattle.rq_pool.specs.Fixing.{AreForcedTo}
+use Rattle.rq_pool.specs.Held.{Held}
 use Rattle.rq_pool.specs.Pooled.{IsPool, Pooled}
 use Rattle.rq_pool.specs.Reading.{ArePages, AreSeen, IsSuperblock, OnlyRead}
 use Rattle.rq_sound.specs.Sound.{IsSound}
-use Rattle.rq_store.specs.Fitting.{image_in}
+use Rattle.rq_store.specs.Fitting.{AllFit, image_in}
+use Rattle.rq_store.proofs.Formatting.{no_lsn}
 use Rattle.rq_store.specs.Opening.{IsLeft, next_restart, opened}
 use Rattle.rq_store.specs.State.{State, ledger_of}
 use Rattle.rq_store.specs.Whole.{AreBased}
@@ -23,14 +29,15 @@ use Rattle.rq_store.proofs.Opening.{opened_after}
 use Rattle.rq_analysis.specs.Recovered.{IsRecovered}
 use Rattle.rq_analysis.proofs.Marked.{marked_incarnation}
 use Rattle.rq_analysis.proofs.Recovering.{recovered_from}
-use Rattle.rq_engine.specs.Earlier.{on as on_earlier, rebased}
+use Rattle.rq_engine.specs.Crash.{AreFit}
+use Rattle.rq_engine.specs.Earlier.{on as on_earlier, over as over_earlier, rebased}
 use Rattle.rq_engine.specs.Opened.{OpenStore, pooled}
 use Rattle.rq_restart.specs.declared.restart.Report.{Report}
 use Rattle.rq_restart.specs.Checked.{as_read}
-use Rattle.rq_restart.specs.Opens.{Opens, OpensOver, Recovers, Refuses}
+use Rattle.rq_restart.specs.Opens.{Opens, OpensOver, OpensWhole, Recovers, Refuses}
 use Rattle.rq_restart.specs.Past.{IsPast, WhereLeft}
 use Rattle.rq_restart.specs.Repeating.{paged}
-use Rattle.rq_restart.specs.Restarting.{IsBegun, IsLeftOn, IsReadAs, IsRefusedFor, OpensLog, Reports, Stops, StopsOver, WasChecked}
+use Rattle.rq_restart.specs.Restarting.{IsBegun, IsLeftOn, IsReadAs, IsRefusedFor, NotWrittenOut, OpensLog, Reports, Stops, StopsOver, WasChecked}
 use Rattle.rq_restart.specs.Refused.{MayBeShut}
 use Rattle.rq_restart.proofs.Begun.{begun_commits, begun_sound, engine_over, opened_over, rolled_back_incarnation, sound_over}
 use Rattle.rq_restart.proofs.Loading.{load_shut, one_size, shut_log}
@@ -38,21 +45,28 @@ use Rattle.rq_restart.proofs.Parsing.{stopped_shut}
 use Rattle.rq_restart.proofs.Pasts.{earlier_back, incarnation_on, left_there, length_on, mended_added, opened_on, past_of, read_is}
 use Rattle.rq_restart.proofs.Restarts.{fit_begun, left_read, shut_over, told_on, was_checked}
 
+pub at_most : (n : ℕ) → n ≡ min n (n + 1)
+at_most n = omega arith
+
 module _ {P L : Type 0} (p : page_device.Ghosts P) (l : log_device.Ghosts L) (pages : P) (log : L) where
   -- why it was refused tells so of devices that hold a store
-  pub refuses : (e : Refusal) (new_pages : P) (new_log : L) → IsRefusedFor p l pages log e new_pages new_log → Refuses p l pages log e new_pages new_log
-  refuses e new_pages new_log cause = record {
+  pub refuses : (e : Refusal) (new_pages : P) (new_log : L) → IsRefusedFor p l pages log e new_pages new_log → OnlyRead p pages new_pages ⊎ NotWrittenOut p l pages log e new_pages new_log → Refuses p l pages log e new_pages new_log
+  refuses e new_pages new_log cause read_or_not = record {
     cause = cause;
+    pages_read = read_or_not;
     stops = λ z block older r. elim cause [
       | inl load ↦ subst (λ d. Stops (IsLeftOn p z pages new_pages older) z older e (p.faults pages) (p.faults new_pages) (l.faults log) (l.faults d)) (sym load.1) (load_shut p z pages new_pages older e (l.faults log) block load.0)
-      | inr read ↦
-          let y = read.0 in
-          let seen = p.seen pages in
-          shut_log (IsLeftOn p z pages new_pages older) (IsLeft y (image_in read.1) older) z y older
-          (λ on.
-          let same = one_size z y (seen 0) block (told_on y seen read.1 read.2 (read.3 on.honest)) in
-          (left_read y seen read.1 older (read.3 on.honest) (subst (λ x. IsLeft x seen older) same on.left), sym same))
-          e (p.faults pages) (p.faults new_pages) (l.faults log) (l.faults new_log) (log_shut y read.1 older r (read.5.over r.honest))
+      | inr rest ↦ elim rest [
+        | inl read ↦
+            let y = read.0 in
+            let seen = p.seen pages in
+            shut_log (IsLeftOn p z pages new_pages older) (IsLeft y (image_in read.1) older) z y older
+            (λ on.
+            let same = one_size z y (seen 0) block (told_on y seen read.1 read.2 (read.3 on.honest)) in
+            (left_read y seen read.1 older (read.3 on.honest) (subst (λ x. IsLeft x seen older) same on.left), sym same))
+            e (p.faults pages) (p.faults new_pages) (l.faults log) (l.faults new_log) (log_shut y read.1 older r (read.5.over r.honest))
+        | inr out ↦ subst (λ (x : Refusal). Stops (IsLeftOn p z pages new_pages older) z older x (p.faults pages) (p.faults new_pages) (l.faults log) (l.faults new_log)) (sym out.is) (inl out.failed)
+      ]
     ];
   } where
     log_shut : (y : Sizes) (images : List (List ℕ)) (older : List Record) → IsReadAs l log new_log older → StopsOver l y (as_read y images) e log new_log → MayBeShut (IsLeft y (image_in images) older) y older e (l.faults log) (l.faults new_log)
@@ -61,7 +75,8 @@ module _ {P L : Type 0} (p : page_device.Ghosts P) (l : log_device.Ghosts L) (pa
 
   -- what was checked of the store that was opened recovers the log that was read, where it was left so
   module _ (s : OpenStore P L) (report : Report) (pool : IsPool s.state.sizes s.state.images) (checked : WasChecked p l pages log s.state.sizes (paged (pooled s)) s.state.records s.pages s.log)
-      (older : List Record) (read : IsReadAs l log s.log older) (over : OpensOver p pages older s report) (on : IsLeftOn p s.state.sizes pages s.pages older) where
+      (older : List Record) (read : IsReadAs l log s.log older) (over : OpensOver older s report) (on : IsLeftOn p s.state.sizes pages s.pages older)
+      (fit : AreBased older → AllFit (p.may_be pages) s.state.sizes older → AreFit p (over_earlier (earlier older) s)) where
     abbrev z : Sizes
     z = s.state.sizes
 
@@ -117,12 +132,12 @@ module _ {P L : Type 0} (p : page_device.Ghosts P) (l : log_device.Ghosts L) (pa
         ∙ ap (λ (i : ℕ). after (Restarted i (length (next_restart now ∷ now))) ledger) (sym over.reports.incarnation_is)
         ∙ ap (λ (n : ℕ). after (Restarted report.incarnation n) ledger) (sym (over.reports.records_are ∙ all))
 
-    pub recovers : Recovers older s report
-    recovers = record { sound = sound; recovered = recovered; entry = entry }
+    pub recovers : Recovers p pages older s report
+    recovers = record { sound = sound; recovered = recovered; entry = entry; fit = fit }
 
   -- an engine over what was made of the pages and of the log
   module _ (loaded : Pooled P) (pages_sound : ArePages loaded.sizes loaded.images) (seen : p.honest loaded.device → AreSeen (p.seen pages) loaded.images (page_count loaded.sizes)) (unchanged : loaded.changed ≡ replicate (page_count loaded.sizes) false)
-      (cause : p.faults loaded.device ≡ p.faults pages) (only : OnlyRead p pages loaded.device) (now : Pooled P) (new : Logged L) (cells : ℕ) (waiting : List ℕ) (sent : SentBy) (planner : List LevelState) (report : Report) (o : OpensLog l loaded now log new cells waiting sent planner report) where
+      (cause : p.faults loaded.device ≡ p.faults pages) (only : OnlyRead p pages loaded.device) (every : length loaded.frames ≡ page_count loaded.sizes) (now : Pooled P) (new : Logged L) (cells : ℕ) (waiting : List ℕ) (sent : SentBy) (planner : List LevelState) (report : Report) (o : OpensLog l loaded now log new cells waiting sent planner report) where
     abbrev pub engine : OpenStore P L
     engine = record {
       state = engine_over now.sizes now.images new.records new.forced report.incarnation cells waiting sent;
@@ -134,31 +149,63 @@ module _ {P L : Type 0} (p : page_device.Ghosts P) (l : log_device.Ghosts L) (pa
       replacing = false;
     }
 
-    all : (older : List Record) → IsReadAs l log new.device older → OpensOver p pages older engine report
+    as_marked : (older : List Record) → IsReadAs l log new.device older → o.read.records ≡ marked older
+    as_marked older r = read_is o.read.records older (l.seen log) o.was_read.marks o.was_read.are_spelled r.are_spelled (o.was_read.reads (o.honest r.honest)) r.reads
+
+    has_begun : (older : List Record) → IsReadAs l log new.device older → IsBegun (marked older) new
+    has_begun older r =
+        let repeated = o.repeated r.honest in
+        subst (λ rs. IsBegun rs new) (as_marked older r) (record { rolled_back = repeated.rolled_back; rolls_back = repeated.rolled_back_on.rolls_back; records = repeated.begun; forced = o.restarted.forced; running = o.restarted.ready.running })
+
+    fits : (older : List Record) → IsReadAs l log new.device older → AreBased older → AllFit (p.may_be pages) now.sizes older → AreFit p (over_earlier (earlier older) engine)
+    fits older r based = fit_begun p pages now.device now.sizes older new r.are_spelled (has_begun older r) (subst (OnlyRead p pages) (sym o.device) only) based
+
+    all : (older : List Record) → IsReadAs l log new.device older → OpensOver older engine report
     all older r =
         let e : List Record = earlier older in
-        let is : o.read.records ≡ marked older = read_is o.read.records older (l.seen log) o.was_read.marks o.was_read.are_spelled r.are_spelled (o.was_read.reads (o.honest r.honest)) r.reads in
+        let is = as_marked older r in
         let back : rebased e o.read.records ≡ older = ap (rebased e) is ∙ earlier_back older r.are_spelled in
-        let repeated = o.repeated r.honest in
-        let begun : IsBegun (marked older) new = subst (λ rs. IsBegun rs new) is (record { rolled_back = repeated.rolled_back; rolls_back = repeated.rolled_back_on.rolls_back; records = repeated.begun; forced = o.restarted.forced; running = o.restarted.ready.running }) in
+        let begun = has_begun older r in
         let told : Reports now.sizes older new.records report.incarnation report.records report.unfinished report.lost = subst (λ rs. Reports now.sizes rs new.records report.incarnation report.records report.unfinished report.lost) back (o.restarted.reports r.honest e (subst (IsPast e) (sym is) (past_of older r.are_spelled))) in
         record {
           reports = told;
           value = opened_over now.sizes now.images (marked older) new report.incarnation cells waiting sent begun (told.incarnation_is ∙ ap (λ n. n + 1) (sym (marked_incarnation older))) o.cells_used o.restarted.told.told o.restarted.told.told_sent;
           committed = begun_commits (marked older) new e begun ∙ ap committed_of (earlier_back older r.are_spelled);
-          fit = λ based. fit_begun p pages now.device now.sizes older new r.are_spelled begun (subst (OnlyRead p pages) (sym o.device) only) based;
         }
 
-    pub opens : Opens p l pages log engine report
+    in_frames : length engine.frames ≡ page_count engine.state.sizes
+    in_frames = ap (λ (f : List Held). length f) o.frames ∙ every ∙ ap page_count (sym o.sizes)
+
+    -- no page is ahead of the records, and the superblock has no LSN
+    none_ahead : AreForcedTo (pooled engine) engine.state.forced
+    none_ahead q high = elim (cases_lt 0 q) [
+      | inl low ↦ (let forced = o.restarted.forced in let within = o.restarted.within q (omega (arith, low)) high in let at : lsn_of (image_in now.images q) ≤ new.forced = omega (arith, forced, within) in at)
+      | inr none ↦
+          let first : 0 ≡ q = omega (arith, none) in
+          let stamp = no_lsn (kind_of now.sizes 0) 0 (image_in now.images 0) o.pool.superblock.header in
+          subst (λ (n : ℕ). lsn_of (image_in now.images n) ≤ new.forced) first (omega (arith, stamp))
+    ]
+
+    checked : l.honest new.device → WasChecked p l pages log now.sizes (paged now) new.records now.device new.device
+    checked = was_checked p l pages log loaded pages_sound seen unchanged now new cells waiting sent planner report o
+
+    read : OnlyRead p pages now.device
+    read = subst (OnlyRead p pages) (sym o.device) only
+
+    opens : Opens p l pages log (page_count now.sizes) engine report
     opens =
-        let checked : l.honest new.device → WasChecked p l pages log now.sizes (paged now) new.records now.device new.device = was_checked p l pages log loaded pages_sound seen unchanged now new cells waiting sent planner report o in
         record {
           sizes = λ h. subst (λ z. IsSuperblock z (p.seen pages 0)) (sym o.sizes) (told_on loaded.sizes (p.seen pages) loaded.images pages_sound (seen (subst p.honest o.device h)));
-          checked = checked;
+          checked = λ h. (paged now, record { image = λ q. refl; changed = λ q e. e; framed = λ q f. refl }, checked h);
           over = all;
-          recovers = λ older r on. recovers engine report o.pool (checked r.honest) older r (all older r) on;
+          recovers = λ older r on. recovers engine report o.pool (checked r.honest) older r (all older r) on (fits older r);
           reads = o.restarted.ready.reads;
           durable = o.restarted.ready.durable;
           untried = refl;
           unfailed = (ap p.faults o.device ∙ cause, o.restarted.cause ∙ o.was_read.counted);
+          frames = in_frames ∙ at_most (page_count now.sizes);
+          pages_left = λ q c may. inl (read.crash q c may);
         }
+
+    pub opens_whole : OpensWhole p l pages log engine report
+    opens_whole = record { opens = opens; checked = checked; pages_read = read; running = refl; idle = refl; forced = o.restarted.forced; ahead = none_ahead }

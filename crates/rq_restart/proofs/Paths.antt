@@ -162,7 +162,7 @@ pub keeps_stores : {P L : Type 0} (p : page_device.Ghosts P) (l : log_device.Gho
     → ((d : L) (t : ℕ) (c : List ℕ) → t ≤ l.moment d → l.may_leave d c → l.left_since d t c)
     → (pages new_pages : P) (log new_log : L) → OnlyRead p pages new_pages → BeginsFrom p l pages log new_pages new_log → KeepsStores p l pages log new_pages new_log
 keeps_stores p l pages_now pages_some log_some counts pages new_pages log new_log only begins = record {
-  pages_read = only;
+  pages_honest = only.honest;
   any_moment = begins;
   path = restart_path p l pages_now pages_some log_some pages new_pages log new_log only begins;
   crash = λ honest h z read are reads was. restart_crash p l pages_now pages_some log_some pages new_pages log new_log only begins honest h z read are reads was counts;

@@ -95,14 +95,14 @@ module _ {P L : Type 0} (p : Ghosts P) (l : log_device.Ghosts L) (pages : P) (lo
 
   pub was_refused : (e : Refusal) (new_pages : P) (new_log : L) → p.faults loaded.device ≡ p.faults pages → RefusesLog l loaded new_pages log new_log e → IsRefusedFor p l pages log e new_pages new_log
   was_refused e new_pages new_log cause h =
-      inr (
+      inr (inl (
         loaded.sizes,
         loaded.images,
         sound,
         (λ honest. seen (subst p.honest h.same honest)),
         ap p.faults h.same ∙ cause,
         subst (λ first. LogStops l loaded.sizes first e log new_log) first_is h.stops,
-      )
+      ))
 
   -- what a crash leaves of the log, beside the pages that were read
   pub begins_from : (new_pages : P) (new_log : L) → new_pages ≡ loaded.device → BeginsAtMost l loaded.sizes (image_in loaded.images) log new_log → BeginsFrom p l pages log new_pages new_log

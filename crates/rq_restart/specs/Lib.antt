@@ -9,6 +9,7 @@ pub mod Once
 pub mod Checked
 pub mod Refused
 pub mod Undoing
+pub mod Fewer
 pub mod Found
 pub mod Aborting
 pub mod RolledBack

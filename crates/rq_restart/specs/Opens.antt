@@ -1,5 +1,5 @@
 -- What a restart answers: the store that it opened, or why it did not, and what it leaves of both devices.
-use Rattle.std.specs.Prelude.{◌≡◌, List, drop, false}
+use Rattle.std.specs.Prelude.{◌≡◌, ◌⊎◌, ℕ, ◌+◌, ◌≤◌, List, [], drop, false, length, min}
 use Rattle.rq_model.specs.declared.record.Record.{Record}
 use Rattle.rq_model.specs.declared.refusal.Refusal.{Refusal}
 use Rattle.rq_model.specs.Bases.{earlier}
@@ -10,7 +10,10 @@ use Rattle.rq_disk.specs.Device.{Only}
 use Rattle.rq_disk.specs.declared.device.LogDevice as log_device
 use Rattle.rq_disk.specs.declared.device.PageDevice as page_device
 use Rattle.rq_log.specs.Spelled.{spelled}
-use Rattle.rq_page.specs.Sizes.{Sizes}
+use Rattle.rq_page.specs.Pages.{lsn_of}
+use Rattle.rq_page.specs.Sizes.{Sizes, page_count}
+use Rattle.rq_pool.specs.Fixing.{AreForcedTo}
+use Rattle.rq_pool.specs.Pooled.{image_at}
 use Rattle.rq_pool.specs.Reading.{IsSuperblock, OnlyRead}
 use Rattle.rq_store.specs.Fitting.{AllFit}
 use Rattle.rq_store.specs.State.{ledger_of}
@@ -22,52 +25,70 @@ use Rattle.rq_engine.specs.Devices.{EachPair, Path}
 use Rattle.rq_engine.specs.Earlier.{on, over, rebased}
 use Rattle.rq_engine.specs.Opened.{OpenStore, pooled}
 use Rattle.rq_restart.specs.declared.restart.Report.{Report}
-use Rattle.rq_restart.specs.Repeating.{paged}
-use Rattle.rq_restart.specs.Restarting.{BeginsFrom, IsLeftOn, IsOpenedOver, IsReadAs, IsRefusedFor, Reports, Stops, WasChecked}
+use Rattle.rq_restart.specs.Repeating.{AreAsRepeated, Paged, paged}
+use Rattle.rq_restart.specs.Restarting.{BeginsFrom, IsLeftOn, IsOpenedOver, IsReadAs, IsRefusedFor, NotWrittenOut, Reports, Stops, WasChecked}
 use Rattle.rq_restart.specs.Underway.{IsLeftOrGoesOn, OfStores}
 
--- What was opened over the log that was read has its commits. Where all that a crash might have left of the pages fitted it,
--- all that one leaves now fits the log that is forced.
-pub record OpensOver {P L : Type 0} (p : page_device.Ghosts P) (pages : P) (older : List Record) (s : OpenStore P L)
-    (report : Report) : Type 0 where
+-- What was opened over the log that was read has its commits.
+pub record OpensOver {P L : Type 0} (older : List Record) (s : OpenStore P L) (report : Report) : Type 0 where
   pub reports : Reports s.state.sizes older s.state.records report.incarnation report.records report.unfinished
       report.lost
   pub value : IsOpenedOver older s.state
   pub committed : (ledger_of (on (earlier older) s.state)).committed ≡ committed_of older
-  pub fit : AreBased older → AllFit (p.may_be pages) s.state.sizes older → AreFit p (over (earlier older) s)
 
--- Over the log of a store that was left so, it is sound, and recovers that log. The restart is an entry of its history.
-pub record Recovers {P L : Type 0} (older : List Record) (s : OpenStore P L) (report : Report) : Type 0 where
+-- Over the log of a store that was left so, it is sound, and recovers that log. The restart is an entry of its history. Where all
+-- that a crash might have left of the pages fitted that log, all that one leaves now fits the log that is forced.
+pub record Recovers {P L : Type 0} (p : page_device.Ghosts P) (pages : P) (older : List Record) (s : OpenStore P L)
+    (report : Report) : Type 0 where
   pub sound : IsSound (on (earlier older) s.state)
   pub recovered : IsRecovered s.state.sizes older (rebased (earlier older) (drop 1 s.state.records))
   pub entry : (ledger : Ledger) → ledger.committed ≡ committed_of older
       → ledger_of (on (earlier older) s.state) ≡ after (Restarted report.incarnation report.records) ledger
+  pub fit : AreBased older → AllFit (p.may_be pages) s.state.sizes older → AreFit p (over (earlier older) s)
 
 module _ {P L : Type 0} (p : page_device.Ghosts P) (l : log_device.Ghosts L) (pages : P) (log : L) where
-  -- the store that was opened on these devices, and what is reported of it
-  pub record Opens (s : OpenStore P L) (report : Report) : Type 0 where
+  -- the store that was opened on these devices, in so many frames beside that of the superblock, and what is reported of it
+  pub record Opens (count : ℕ) (s : OpenStore P L) (report : Report) : Type 0 where
     pub sizes : p.honest s.pages → IsSuperblock s.state.sizes (p.seen pages 0)
-    pub checked : l.honest s.log → WasChecked p l pages log s.state.sizes (paged (pooled s)) s.state.records s.pages s.log
-    pub over : (older : List Record) → IsReadAs l log s.log older → OpensOver p pages older s report
+    pub checked : l.honest s.log → (last : Paged) × AreAsRepeated s.frames last (paged (pooled s))
+        × WasChecked p l pages log s.state.sizes last s.state.records s.pages s.log
+    pub over : (older : List Record) → IsReadAs l log s.log older → OpensOver older s report
     pub recovers : (older : List Record) → IsReadAs l log s.log older → IsLeftOn p s.state.sizes pages s.pages older
-        → Recovers older s report
+        → Recovers p pages older s report
     -- all its records are forced, and no checkpoint has failed
     pub reads : l.honest s.log → l.seen s.log ≡ spelled s.state.records
     pub durable : l.honest s.log → Only (spelled s.state.records) (l.may_leave s.log)
     pub untried : s.replacing ≡ false
     pub unfailed : (p.faults s.pages ≡ p.faults pages) × (l.faults s.log ≡ l.faults log)
+    pub frames : length s.frames ≡ min (page_count s.state.sizes) (count + 1)
+    -- of a page a crash leaves what it might have left before, or its image, whose last record is one of them
+    pub pages_left : (q : ℕ) (c : List ℕ) → p.may_be s.pages q c → p.may_be pages q c
+        ⊎ ((c ≡ image_at s.state.images q) × (lsn_of c ≤ length s.state.records))
+
+  -- The same with each page in a frame: it runs, nothing is under way, all its records are forced, and no page is ahead of them. The
+  -- pages were only read.
+  pub record OpensWhole (s : OpenStore P L) (report : Report) : Type 0 where
+    pub opens : Opens (page_count s.state.sizes) s report
+    pub checked : l.honest s.log → WasChecked p l pages log s.state.sizes (paged (pooled s)) s.state.records s.pages s.log
+    pub pages_read : OnlyRead p pages s.pages
+    pub running : s.state.failed ≡ false
+    pub idle : s.state.rows ≡ []
+    pub forced : s.state.forced ≡ length s.state.records
+    pub ahead : AreForcedTo (pooled s) s.state.forced
 
   -- why none was opened, and what that says of devices that hold a store
   pub record Refuses (e : Refusal) (new_pages : P) (new_log : L) : Type 0 where
     pub cause : IsRefusedFor p l pages log e new_pages new_log
+    -- the pages were only read, or one of them could not be written out
+    pub pages_read : OnlyRead p pages new_pages ⊎ NotWrittenOut p l pages log e new_pages new_log
     pub stops : (z : Sizes) → IsSuperblock z (p.seen pages 0) → (older : List Record) → IsReadAs l log new_log older
         → Stops (IsLeftOn p z pages new_pages older) z older e (p.faults pages) (p.faults new_pages) (l.faults log)
         (l.faults new_log)
 
-  -- The pages were only read, and the log has at most records behind what was read, at every moment. So where each pair
-  -- that a crash might have left is a store, each pair that a crash leaves is one.
+  -- The log has at most records behind what was read, at every moment, and pages may be written out behind all of them. So where
+  -- each pair that a crash might have left is a store, each pair that a crash leaves is one.
   pub record KeepsStores (new_pages : P) (new_log : L) : Type 0 where
-    pub pages_read : OnlyRead p pages new_pages
+    pub pages_honest : p.honest new_pages → p.honest pages
     pub any_moment : BeginsFrom p l pages log new_pages new_log
     pub path : OfStores p l pages log new_pages new_log
         (λ z read. Path p l (IsLeftOrGoesOn l log z read) pages log new_pages new_log)

@@ -6,7 +6,8 @@ use Rattle.rq_page.specs.Sizes.{Sizes, page_count}
 use Rattle.rq_page.specs.Pages.{lsn_of, slot_of}
 use Rattle.rq_page.specs.Slots.{held_in}
 use Rattle.rq_page.specs.Slots.Slot.{Free}
-use Rattle.rq_pool.specs.Pooled.{Pooled}
+use Rattle.rq_pool.specs.Held.{Held, IsFramed}
+use Rattle.rq_pool.specs.Pooled.{Pooled, is_changed}
 use Rattle.rq_views.specs.Log.{Slots}
 use Rattle.rq_analysis.specs.Rules.{BeforeIt, FollowsRules, IsNextIn}
 use Rattle.rq_store.specs.Opening.{MayRedo, Redoes, IsCounted}
@@ -19,6 +20,13 @@ pub record Paged : Type 0 where
 
 abbrev pub paged : {P : Type 0} → Pooled P → Paged
 paged pages = record { image = image_in pages.images; changed = pages.changed }
+
+-- The same pages, of which these stand in frames. Each has the image that it had, and each that counts as changed did so before;
+-- one that stands in a frame counts as it did.
+pub record AreAsRepeated (frames : List Held) (last now : Paged) : Type 0 where
+  pub image : (p : ℕ) → now.image p ≡ last.image p
+  pub changed : (p : ℕ) → is_changed now.changed p ≡ true → is_changed last.changed p ≡ true
+  pub framed : (p : ℕ) → IsFramed frames p → is_changed now.changed p ≡ is_changed last.changed p
 
 -- what the slots of these pages hold
 abbrev pub slots_on : Sizes → Paged → Slots

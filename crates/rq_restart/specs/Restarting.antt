@@ -5,6 +5,7 @@ use Rattle.rq_model.specs.declared.refusal.Refusal.{Refusal}
 use Rattle.rq_model.specs.declared.refusal.Refusal.TheVariants as why
 use Rattle.rq_groups.specs.Sent.{SentBy, sent_count}
 use Rattle.rq_groups.specs.Waiting.{waits}
+use Rattle.rq_page.specs.Pages.{lsn_of}
 use Rattle.rq_page.specs.Sizes.{Sizes, page_count, sender_count}
 use Rattle.rq_level.specs.LevelState.{LevelState}
 use Rattle.rq_planner.specs.Answered.{KnowsCells}
@@ -65,7 +66,7 @@ pub record Reports (z : Sizes) (older records : List Record) (incarnation count 
 abbrev pub Stops : Type 0 → Sizes → List Record → Refusal → ℕ → ℕ → ℕ → ℕ → Type 0
 Stops left z log why.NoMemory before now old new = Unit {0}
 Stops left z log why.DiskRead before now old new = (now ≡ (before + 1) % 2 ^ 64) ⊎ (new ≡ (old + 1) % 2 ^ 64)
-Stops left z log why.DiskWrite before now old new = new ≡ (old + 1) % 2 ^ 64
+Stops left z log why.DiskWrite before now old new = (now ≡ (before + 1) % 2 ^ 64) ⊎ (new ≡ (old + 1) % 2 ^ 64)
 Stops left z log why.LogFull before now old new = left → IsAtBound z log
 Stops left z log (why.Damaged d) before now old new = left → ⊥
 Stops left z log _ before now old new = ⊥
@@ -145,6 +146,8 @@ module _ {L : Type 0} (g : log_device.Ghosts L) where
     pub forced : new.forced ≡ length new.records
     pub reports : g.honest new.device → (e : List Record) → IsPast e old.records
         → Reports z (rebased e old.records) new.records report.incarnation report.records report.unfinished report.lost
+    -- no page is ahead of them
+    pub within : (p : ℕ) → 1 ≤ p → p < page_count z → lsn_of (image_in images p) ≤ length new.records
     pub told : AreTold z images (length new.records) waiting sent
     pub known : KnowsCells z images planner
     pub ready : IsReady g report.incarnation new
@@ -213,15 +216,6 @@ module _ {L : Type 0} (g : log_device.Ghosts L) where
     pub any_moment : BeginsAtMost pages.sizes (image_in pages.images) old new
 
 module _ {P L : Type 0} (p : page_device.Ghosts P) (l : log_device.Ghosts L) (pages : P) (log : L) where
-  -- Why a restart was refused, and where: the pages could not be read, and the log was left alone; or they were all
-  -- read and are sound, and then this.
-  abbrev pub IsRefusedFor : Refusal → P → L → Type 0
-  IsRefusedFor e new_pages new_log =
-      (pages_read.StopsFor p e pages new_pages × (new_log ≡ log))
-      ⊎ ((z : Sizes) × (images : List (List ℕ)) × ArePages z images
-      × (p.honest new_pages → AreSeen (p.seen pages) images (page_count z)) × (p.faults new_pages ≡ p.faults pages)
-      × LogStops l z (as_read z images) e log new_log)
-
   -- the pages were read, and are those of a store of these sizes
   pub record WereRead (new_pages : P) (z : Sizes) (images : List (List ℕ)) : Type 0 where
     pub sound : ArePages z images
@@ -253,3 +247,25 @@ module _ {P L : Type 0} (p : page_device.Ghosts P) (l : log_device.Ghosts L) (pa
     pub rolled_back_on : IsRolledBackOn z older rolled_back (as_read z images) last
     pub begun : records ≡ next_restart rolled_back ∷ rolled_back
     pub room : length rolled_back < 2 ^ 50
+
+  -- A page could not be written out: its device failed once more in that, and the device of the log did not. All was checked, and
+  -- the next incarnation begun: the log reads as its records, and a crash leaves them.
+  pub record NotWrittenOut (e : Refusal) (new_pages : P) (new_log : L) : Type 0 where
+    pub is : e ≡ why.DiskWrite
+    pub failed : p.faults new_pages ≡ (p.faults pages + 1) % 2 ^ 64
+    pub unfailed : l.faults new_log ≡ l.faults log
+    pub sizes : Sizes
+    pub records : List Record
+    pub checked : l.honest new_log → (last : Paged) × WasChecked sizes last records new_pages new_log
+    pub reads : l.honest new_log → l.seen new_log ≡ spelled records
+    pub durable : l.honest new_log → Only (spelled records) (l.may_leave new_log)
+
+  -- Why a restart was refused, and where: the pages could not be read, and the log was left alone; or they were all
+  -- read and are sound, and then this; or one of them could not be written out at the end.
+  abbrev pub IsRefusedFor : Refusal → P → L → Type 0
+  IsRefusedFor e new_pages new_log =
+      (pages_read.StopsFor p e pages new_pages × (new_log ≡ log))
+      ⊎ (((z : Sizes) × (images : List (List ℕ)) × ArePages z images
+      × (p.honest new_pages → AreSeen (p.seen pages) images (page_count z)) × (p.faults new_pages ≡ p.faults pages)
+      × LogStops l z (as_read z images) e log new_log)
+      ⊎ NotWrittenOut e new_pages new_log)

@@ -2,6 +2,7 @@
 ghost use Rattle.std.specs.Prelude.{◌≡◌, ◌∷◌, ◌<◌, IfOk, IfErr, MatchOption, OnOk, OnErr, None, false, List, [], length, take};
 ghost use Rattle.rq_views.specs.Stored.{slots_in};
 ghost use Rattle.rq_level.specs.Writes.{AreSlotWrites};
+ghost use Rattle.rq_pool.specs.Fetching.{AreAllFramed};
 ghost use Rattle.rq_planner.specs.Answered.{IsPlannedAlone, KnowsCells};
 ghost use Rattle.rq_planner.specs.Backs.{IsTakingBack};
 ghost use Rattle.rq_analysis.specs.declared.dues.PendingUndo.{PendingUndo};
@@ -47,6 +48,7 @@ pub(crate) fn abort_lost<P: PageDevice + Drop, L: LogDevice + Drop, B: Level>(
     analysis: &mut Analysis,
     planner: &mut Planner<B>,
 ) -> Result<(), Refusal>
+    requires framed { AreAllFramed pages.old }
     requires found { IsAnalysisOf analysis.old log.old.records }
     requires follow { L.honest log.old.device → FollowAll log.old.records }
     requires running { log.old.failed ≡ false }
@@ -83,6 +85,7 @@ fn end_idle<P: PageDevice + Drop, L: LogDevice + Drop, B: Level>(
     analysis: &mut Analysis,
     planner: &mut Planner<B>,
 ) -> Result<(), Refusal>
+    requires framed { AreAllFramed pages.old }
     requires found { IsAnalysisOf analysis.old log.old.records }
     requires follow { L.honest log.old.device → FollowAll log.old.records }
     requires running { log.old.failed ≡ false }
@@ -116,6 +119,7 @@ fn undo_all_due<P: PageDevice + Drop, L: LogDevice + Drop, B: Level>(
     analysis: &mut Analysis,
     planner: &mut Planner<B>,
 ) -> Result<(), Refusal>
+    requires framed { AreAllFramed pages.old }
     requires found { IsAnalysisOf analysis.old log.old.records }
     requires follow { L.honest log.old.device → FollowAll log.old.records }
     requires none { least_free analysis.old.dues analysis.old.open_work.active ≡ None }
@@ -167,6 +171,7 @@ fn undo_due<P: PageDevice + Drop, L: LogDevice + Drop, B: Level>(
     planner: &mut Planner<B>,
     due: &PendingUndo,
 ) -> Result<(), Refusal>
+    requires framed { AreAllFramed pages.old }
     requires found { IsAnalysisOf analysis.old log.old.records }
     requires follow { L.honest log.old.device → FollowAll log.old.records }
     requires none { least_free analysis.old.dues analysis.old.open_work.active ≡ None }
@@ -219,6 +224,7 @@ fn make_all<P: PageDevice + Drop, L: LogDevice + Drop, B: Level>(
     operation: u64,
     writes: &[SlotWrite],
 ) -> Result<(), Refusal>
+    requires framed { AreAllFramed pages.old }
     requires found { IsAnalysisOf analysis.old log.old.records }
     requires follow { L.honest log.old.device → FollowAll log.old.records }
     requires txn { IsTxnInRange due.now.txn }
@@ -289,7 +295,8 @@ fn plan<P: PageDevice, B: Level>(
     planner: &mut Planner<B>,
     due: &PendingUndo,
 ) -> Result<Vec<SlotWrite>, Refusal>
-    requires { KnowsCells pages.old.sizes pages.old.images planner.old }
+    requires framed { AreAllFramed pages.old }
+    requires cells { KnowsCells pages.old.sizes pages.old.images planner.old }
     ensures same { pages.new ≡ pages.old }
     ensures cells { KnowsCells pages.old.sizes pages.old.images planner.new }
     ensures answered { IfOk result (λ writes.
@@ -298,7 +305,6 @@ fn plan<P: PageDevice, B: Level>(
         (deed_by due.now.level due.now.deed) writes.items) }
     ensures stops { IfErr result (λ e. PlanStops pages.old.sizes pages.old.images due.now e) }
 {
-    pages.shows_framed();
     match planner.plan_inverse_alone(alloc, pages, &op_end(due)) {
         Ok(writes) => Ok(writes),
         Err(refusal) => Err(blamed(due.lsn, refusal)),

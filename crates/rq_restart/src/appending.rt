@@ -2,6 +2,7 @@
 ghost use Rattle.std.specs.Prelude.{◌≡◌, ◌∷◌, ◌+◌, IfErr, IsTrue, OnOk, None, false, length};
 ghost use Rattle.rq_log.specs.Spelled.{AreSpelled};
 ghost use Rattle.rq_model.specs.Bases.{is_base};
+ghost use Rattle.rq_pool.specs.Fetching.{AreAllFramed};
 ghost use Rattle.rq_pool.specs.Pooled.{IsPool};
 ghost use Rattle.rq_record.specs.Spelling.{IsInRange};
 ghost use Rattle.rq_store.specs.Fitting.{told_by, image_in};
@@ -39,6 +40,7 @@ pub(crate) fn append<P: PageDevice + Drop, L: LogDevice + Drop, B: Level>(
     planner: &mut Planner<B>,
     undo: &Record,
 ) -> Result<(), Refusal>
+    requires framed { AreAllFramed pages.old }
     requires found { IsAnalysisOf analysis.old log.old.records }
     requires follow { L.honest log.old.device → FollowAll log.old.records }
     requires running { log.old.failed ≡ false }
@@ -91,6 +93,7 @@ fn make<P: PageDevice + Drop, B: Level>(
     lsn: Lsn,
     undo: &Record,
 ) -> bool
+    requires framed { AreAllFramed pages.old }
     ensures redone { IsTrue result → Redoes (told_by undo.now) lsn (image_in pages.old.images)
         (image_in pages.new.images) }
     ensures marked { IsTrue result → Marks (told_by undo.now) lsn (paged pages.old) pages.new.changed }
@@ -110,13 +113,15 @@ fn make<P: PageDevice + Drop, B: Level>(
 }
 
 // Has the level of single slots make what a record writes, where its page is older.
+#[tactic(auto, using(crate::proofs::Framing::slot_framed))]
 fn make_write<P: PageDevice + Drop, B: Level>(
     pages: &mut Pages<P>,
     planner: &mut Planner<B>,
     lsn: Lsn,
     undo: &Record,
 )
-    requires { MayRedo pages.old.sizes (image_in pages.old.images) lsn undo.now }
+    requires framed { AreAllFramed pages.old }
+    requires write { MayRedo pages.old.sizes (image_in pages.old.images) lsn undo.now }
     ensures redone { Redoes (told_by undo.now) lsn (image_in pages.old.images) (image_in pages.new.images) }
     ensures marked { Marks (told_by undo.now) lsn (paged pages.old) pages.new.changed }
     ensures same { told_by undo.now ≡ None → pages.new ≡ pages.old }

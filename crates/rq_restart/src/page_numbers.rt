@@ -1,5 +1,6 @@
 //! The numbers of pages as they were read: none may be beyond the log, whose length is known once it was gone through.
 ghost use Rattle.std.specs.Prelude.{◌≡◌, ◌≤◌, ◌<◌, ◌^◌, ◌↔◌, ℕ, IfOk, IfErr, IfSome, IfNone, length};
+ghost use Rattle.rq_pool.specs.Fetching.{AreAllFramed};
 ghost use Rattle.rq_store.specs.Opening.{IsCounted};
 ghost use Rattle.rq_restart.specs.Numbers.{AreNumbersOf, IsFirstBeyond, NoneBeyond};
 ghost use Rattle.rq_restart.specs.Repeating.{paged};
@@ -23,10 +24,12 @@ impl PageNumbers {
     ///
     /// # Errors
     /// `NoMemory`.
+    #[tactic(auto, using(crate::proofs::Framing::page_at_hand))]
     pub(crate) fn of_pages<P: PageDevice + Drop>(
         alloc: Global,
         pages: &Pages<P>,
     ) -> Result<Self, Refusal>
+        requires framed { AreAllFramed pages.now }
         ensures numbers { IfOk result (λ kept. AreNumbersOf pages.now.sizes (paged pages.now) kept.numbers.items) }
         ensures err { IfErr result (λ e. e ≡ Refusal.NoMemory) }
     {

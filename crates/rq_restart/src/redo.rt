@@ -6,6 +6,7 @@ ghost use Rattle.rq_log.specs.Reading.{EndsShort, IsRead};
 ghost use Rattle.rq_log.specs.Spelled.{spelled};
 ghost use Rattle.rq_page.specs.Sizes.{Sizes, page_count};
 ghost use Rattle.rq_page.specs.Pages.{lsn_of, slot_of};
+ghost use Rattle.rq_pool.specs.Fetching.{AreAllFramed};
 ghost use Rattle.rq_store.specs.Opening.{Redoes, IsSoundTold, MayRedo};
 ghost use Rattle.rq_store.specs.Fitting.{told_by, image_in};
 ghost use Rattle.rq_analysis.specs.LogTables.{PutsBack};
@@ -58,6 +59,7 @@ pub(crate) fn repeat_history<P: PageDevice + Drop, L: LogDevice, B: Level>(
     reader: &mut LogReader<L>,
     levels: &mut StoreLevels<B>,
 ) -> Result<Analysis, Refusal>
+    requires framed { AreAllFramed pages.old }
     requires none_read { reader.old.records ≡ [] }
     requires untouched { reader.old.device ≡ reader.old.first }
     ensures found { IfOk result (λ analysis. IsAnalysisOf analysis reader.new.records) }
@@ -124,6 +126,7 @@ fn check_and_redo<P: PageDevice + Drop, B: Level>(
     puts_back: bool,
     record: &Record,
 ) -> Result<(), Refusal>
+    requires framed { AreAllFramed pages.old }
     requires plain { is_base «record».now ≡ false }
     ensures found { OnOk result ((older : List AnyRecord) → lsn ≡ length older + 1 → IsAnalysisOf analysis.old older
         → length (spelled («record».now ∷ older)) < 2 ^ 64 → IsAnalysisOf analysis.new («record».now ∷ older)) }
@@ -166,6 +169,7 @@ fn can_be_read<B: Level>(levels: &StoreLevels<B>, record: &Record) -> bool
 
 /// Whether a record fits the store: what it writes may stand there, over what stands there.
 pub(crate) fn may_redo<P: PageDevice + Drop>(pages: &Pages<P>, lsn: Lsn, record: &Record) -> bool
+    requires framed { AreAllFramed pages.now }
     ensures { IsTrue result ↔ MayRedo pages.now.sizes (image_in pages.now.images) lsn «record».now }
 {
     match record {
@@ -190,13 +194,15 @@ pub(crate) fn may_redo<P: PageDevice + Drop>(pages: &Pages<P>, lsn: Lsn, record:
 }
 
 // Has the level of single slots make what a record writes, where its page is older.
+#[tactic(auto, using(crate::proofs::Framing::slot_framed))]
 fn apply<P: PageDevice + Drop, B: Level>(
     pages: &mut Pages<P>,
     levels: &mut StoreLevels<B>,
     lsn: Lsn,
     record: &Record,
 )
-    requires { MayRedo pages.old.sizes (image_in pages.old.images) lsn «record».now }
+    requires framed { AreAllFramed pages.old }
+    requires write { MayRedo pages.old.sizes (image_in pages.old.images) lsn «record».now }
     ensures redone { Redoes (told_by «record».now) lsn (image_in pages.old.images) (image_in pages.new.images) }
     ensures marked { Marks (told_by «record».now) lsn (paged pages.old) pages.new.changed }
     ensures sizes { pages.new.sizes ≡ pages.old.sizes }
@@ -219,6 +225,7 @@ fn is_sound(layout: &Layout, lsn: Lsn, page: u32, slot: u8, after: &Slot) -> boo
 }
 
 // Whether the before-image stands in the slot, if the page is older.
+#[tactic(auto, using(crate::proofs::Framing::all_at_hand))]
 fn is_over<P: PageDevice + Drop>(
     pages: &Pages<P>,
     lsn: Lsn,
@@ -226,12 +233,14 @@ fn is_over<P: PageDevice + Drop>(
     slot: u8,
     before: &Slot,
 ) -> bool
+    requires framed { AreAllFramed pages.now }
     requires page { page < page_count pages.now.sizes }
     requires low { 1 ≤ slot }
     requires high { slot ≤ 15 }
     ensures { IsTrue result ↔ (lsn_of (image_in pages.now.images page) < lsn
         → slot_of slot (image_in pages.now.images page) ≡ before.now) }
 {
+    pages.shows_frames();
     let old = pages.page(page).unwrap();
     old.lsn() >= lsn || are_equal(old.slot(slot), before)
 }

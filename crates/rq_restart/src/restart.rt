@@ -1,17 +1,21 @@
 //! Opening a store that a crash, or nothing at all, left behind.
-ghost use Rattle.std.specs.Prelude.{◌≡◌, ◌≢◌, ◌+◌, ◌<◌, ◌≤◌, ◌∷◌, IfOk, IfErr, OnOk, false, length};
+ghost use Rattle.std.specs.Prelude.{◌≡◌, ◌≢◌, [], ◌+◌, ◌<◌, ◌≤◌, ◌∷◌, IfOk, IfErr, OnOk, false, length};
 ghost use Rattle.rq_model.specs.declared.record.Record.TheVariants as records;
 ghost use Rattle.rq_model.specs.declared.record.Record.{Record};
 ghost use Rattle.rq_views.specs.Stored.{slots_in};
 ghost use Rattle.rq_log.specs.Crash.{LeavesOnly};
 ghost use Rattle.rq_log.specs.Reading.{IsRead};
+ghost use Rattle.rq_pool.specs.Fetching.{AreAllFramed};
+ghost use Rattle.rq_pool.specs.Fixing.{AreForcedTo};
 ghost use Rattle.rq_pool.specs.Pooled.{IsPool};
 ghost use Rattle.rq_planner.specs.Answered.{KnowsCells};
+ghost use Rattle.rq_engine.specs.Opened.{OpenStore, pooled};
 ghost use Rattle.rq_analysis.specs.Rules.{FollowAll};
 ghost use Rattle.rq_chain_check.specs.Links.{AreLinked};
 ghost use Rattle.rq_restart.specs.Repeating.{ArePagesCounted, Paged, Repeats, paged, slots_on};
-ghost use Rattle.rq_restart.specs.Opens.{KeepsStores, Opens, Refuses};
+ghost use Rattle.rq_restart.specs.Opens.{KeepsStores, Opens, OpensWhole, Refuses};
 ghost use Rattle.rq_restart.specs.Restarting.{IsLogRead, OpensLog, RefusesLog, IsReady, IsRestarted, LeavesLog, WasLeftOrForced};
+ghost use Rattle.rq_restart.specs.Fewer.{KeepsFrames, StopsOut};
 ghost use Rattle.rq_restart.specs.Refused.{BeginsNot, IsStoppedBehind, WhyShut};
 ghost use Rattle.rq_restart.specs.Numbers.{AreNumbersOf};
 ghost use Rattle.rq_restart.specs.Found.{IsAnalysisOf};
@@ -36,6 +40,7 @@ use rq_model::record::Record;
 use rq_model::refusal::{Damage, Refusal};
 use rq_planner::{Planner, StoreLevels};
 use rq_pool::Pages;
+use rq_pool::frame_count::FrameCount;
 use rq_record::{shows_fits, spelled_len};
 use std::alloc::Global;
 
@@ -77,7 +82,8 @@ pub struct Stopped<P, L> {
 
 /// Opens a store: reads and checks its pages and its log, repeats history on the pages, undoes operations that have no
 /// end by their slots and transactions that have none by inverses, and forces the records of that with the Restart record
-/// of a new incarnation. The levels are dropped where it is refused.
+/// of a new incarnation. Then it keeps so many `frames` beside that of the superblock, and writes pages out for that. The levels
+/// are dropped where it is refused.
 ///
 /// # Errors
 /// `NoMemory`; `DiskRead` or `DiskWrite` where a device fails, `Damaged` where a page or a record
@@ -87,8 +93,54 @@ pub fn restart<P: PageDevice + Drop, L: LogDevice + Drop, B: Level>(
     pages: P,
     log: L,
     levels: StoreLevels<B>,
+    frames: FrameCount,
 ) -> Result<(Engine<P, L, B>, Report), Stopped<P, L>>
-    ensures opened { IfOk result (λ o. Opens P.PageDevice L.LogDevice pages log o.0 o.1) }
+    ensures opened { IfOk result (λ o. Opens P.PageDevice L.LogDevice pages log frames.count o.0 o.1) }
+    ensures refused { IfErr result (λ stopped. Refuses P.PageDevice L.LogDevice pages log stopped.refusal stopped.pages
+        stopped.log) }
+    ensures left { KeepsStores P.PageDevice L.LogDevice pages log (pages_left result) (log_left result) }
+{
+    match restart_whole(alloc, pages, log, levels) {
+        Ok((engine, report)) => keep_frames(engine, report, frames),
+        Err(stopped) => Err(stopped),
+    }
+}
+
+// Lets go of frames until so many are left beside that of the superblock. Where a page cannot be written out for that, both
+// devices are given back.
+fn keep_frames<P: PageDevice + Drop, L: LogDevice + Drop, B: Level>(
+    mut engine: Engine<P, L, B>,
+    report: Report,
+    frames: FrameCount,
+) -> Result<(Engine<P, L, B>, Report), Stopped<P, L>>
+    requires running { engine.state.failed ≡ false }
+    requires idle { engine.state.rows ≡ [] }
+    requires forced { AreForcedTo (pooled engine) engine.state.forced }
+    ensures kept { IfOk result (λ o. KeepsFrames P.PageDevice L.LogDevice frames.count engine o.0 × (o.1 ≡ report)) }
+    ensures stopped { IfErr result (λ stopped. (store : OpenStore P L) × (store.pages ≡ stopped.pages)
+        × (store.log ≡ stopped.log) × StopsOut P.PageDevice L.LogDevice engine store stopped.refusal) }
+{
+    match engine.shrink(frames) {
+        Ok(()) => Ok((engine, report)),
+        Err(refusal) => {
+            let (pages, log) = engine.give_back();
+            Err(Stopped {
+                refusal,
+                pages,
+                log,
+            })
+        }
+    }
+}
+
+// Opens a store with each page in a frame.
+fn restart_whole<P: PageDevice + Drop, L: LogDevice + Drop, B: Level>(
+    alloc: Global,
+    pages: P,
+    log: L,
+    levels: StoreLevels<B>,
+) -> Result<(Engine<P, L, B>, Report), Stopped<P, L>>
+    ensures opened { IfOk result (λ o. OpensWhole P.PageDevice L.LogDevice pages log o.0 o.1) }
     ensures refused { IfErr result (λ stopped. Refuses P.PageDevice L.LogDevice pages log stopped.refusal stopped.pages
         stopped.log) }
     ensures left { KeepsStores P.PageDevice L.LogDevice pages log (pages_left result) (log_left result) }
@@ -136,6 +188,7 @@ fn restart_log<P: PageDevice + Drop, L: LogDevice + Drop, B: Level>(
     log: L,
     mut levels: StoreLevels<B>,
 ) -> Result<Opened<P, L, B>, Stopped<P, L>>
+    requires framed { AreAllFramed pages }
     ensures opened { IfOk result (λ o. OpensLog L.LogDevice pages o.pages log o.log o.cells o.tables.waiting o.tables.sent
         o.tables.planner o.report) }
     ensures refused { IfErr result (λ stopped. RefusesLog L.LogDevice pages stopped.pages log stopped.log
@@ -179,6 +232,7 @@ fn read_and_redo<P: PageDevice + Drop, L: LogDevice + Drop, B: Level>(
     log: L,
     levels: &mut StoreLevels<B>,
 ) -> Result<(Log<L>, Analysis, PageNumbers), rq_log::RefusedLog<L>>
+    requires framed { AreAllFramed pages.old }
     ensures read { IfOk result (λ read. IsLogRead L.LogDevice log read.0) }
     ensures found { IfOk result (λ read. IsAnalysisOf read.1 read.0.records) }
     ensures repeated { IfOk result (λ read. L.honest read.0.device
@@ -226,6 +280,7 @@ fn finish_restart<P: PageDevice + Drop, L: LogDevice + Drop, B: Level>(
     numbers: &PageNumbers,
     levels: StoreLevels<B>,
 ) -> Result<(EngineTables<B>, Report), Refusal>
+    requires framed { AreAllFramed pages.old }
     requires found { IsAnalysisOf analysis.old log.old.records }
     requires running { log.old.failed ≡ false }
     requires pages { (first : Paged) × (L.honest log.old.device → Repeats pages.old.sizes log.old.records first (paged pages.old))
@@ -275,13 +330,13 @@ fn finish_restart<P: PageDevice + Drop, L: LogDevice + Drop, B: Level>(
 
 // That the senders' chains are whole; else it is refused with the page to be named. No page is read, as each stands in a frame.
 fn check_links<P: PageDevice>(alloc: Global, pages: &mut Pages<P>) -> Result<(), Refusal>
+    requires framed { AreAllFramed pages.old }
     ensures linked { OnOk result (AreLinked pages.old.sizes (slots_in pages.old.sizes pages.old.images)) }
     ensures stops { IfErr result (λ e. LinkStops pages.old.sizes (slots_in pages.old.sizes pages.old.images) e) }
     ensures pool { IsPool pages.old.sizes pages.old.images }
     ensures same { pages.new ≡ pages.old }
 {
     shows_pool(pages);
-    pages.shows_framed();
     match first_broken(alloc, pages) {
         Ok(Some(page)) => Err(Refusal::Damaged(Damage::Page(page))),
         Ok(None) => Ok(()),
@@ -298,6 +353,7 @@ fn undo_all<P: PageDevice + Drop, L: LogDevice + Drop, B: Level>(
     analysis: &mut Analysis,
     levels: StoreLevels<B>,
 ) -> Result<(u64, Planner<B>), Refusal>
+    requires framed { AreAllFramed pages.old }
     requires found { IsAnalysisOf analysis.old log.old.records }
     requires follow { L.honest log.old.device → FollowAll log.old.records }
     requires running { log.old.failed ≡ false }

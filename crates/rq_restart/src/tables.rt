@@ -2,7 +2,7 @@
 //! it marked, and which cells are free.
 ghost use Rattle.std.specs.Prelude.{◌≡◌, ◌+◌, [], IfErr, IfOk, OnErr, OnOk};
 ghost use Rattle.rq_page.specs.Sizes.{client_count, sender_count};
-ghost use Rattle.rq_pool.specs.Fetching.{HasReadFor, IsUnread};
+ghost use Rattle.rq_pool.specs.Fetching.{AreAllFramed, HasReadFor, IsUnread};
 ghost use Rattle.rq_pool.specs.Pooled.{IsPool};
 ghost use Rattle.rq_store.specs.Opening.{sent_in_slots, waiting_in};
 ghost use Rattle.rq_planner.specs.Answered.{KnowsCells};
@@ -38,7 +38,8 @@ pub(crate) fn read_slots<P: PageDevice + Drop, B: Level>(
     pages: &mut Pages<P>,
     planner: Planner<B>,
 ) -> Result<EngineTables<B>, Refusal>
-    requires { KnowsCells pages.old.sizes pages.old.images planner }
+    requires framed { AreAllFramed pages.old }
+    requires known { KnowsCells pages.old.sizes pages.old.images planner }
     ensures waiting { IfOk result (λ tables. tables.waiting ≡ waiting_in pages.old.sizes pages.old.images) }
     ensures sent { IfOk result (λ tables. tables.sent ≡ sent_in_slots pages.old.sizes pages.old.images) }
     ensures known { IfOk result (λ tables. KnowsCells pages.old.sizes pages.old.images tables.planner) }
@@ -68,6 +69,7 @@ fn read_tables<P: PageDevice + Drop>(
     waiting: &mut Waiting,
     sent: &mut Sent,
 ) -> Result<(), Refusal>
+    requires framed { AreAllFramed pages.old }
     requires senders { senders ≡ sender_count pages.old.sizes }
     requires clients { clients ≡ client_count pages.old.sizes }
     requires waiting { AreWaitingTo pages.old.sizes pages.old.images 0 waiting.old }
@@ -77,7 +79,6 @@ fn read_tables<P: PageDevice + Drop>(
     ensures same { pages.new ≡ pages.old }
     ensures never { OnErr result ⊥ }
 {
-    pages.shows_framed();
     match read_directory(pages, senders, waiting, sent) {
         Ok(()) => read_clients(pages, senders, clients, sent),
         Err(refusal) => Err(refusal),
@@ -148,12 +149,12 @@ pub(crate) fn tell_cells<P: PageDevice + Drop, B: Level>(
     pages: &mut Pages<P>,
     planner: &mut Planner<B>,
 ) -> Result<(), Refusal>
-    requires { AreForStores planner.old }
+    requires framed { AreAllFramed pages.old }
+    requires levels { AreForStores planner.old }
     ensures same { pages.new ≡ pages.old }
     ensures known { OnOk result (KnowsCells pages.old.sizes pages.old.images planner.new) }
     ensures never { OnErr result ⊥ }
 {
     pages.shows_kept();
-    pages.shows_framed();
     planner.tell(pages)
 }

@@ -1,5 +1,6 @@
 //! Undoing operations that have no end, slot by slot.
 ghost use Rattle.std.specs.Prelude.{◌≡◌, IfErr, OnOk, false, length};
+ghost use Rattle.rq_pool.specs.Fetching.{AreAllFramed};
 ghost use Rattle.rq_pool.specs.Pooled.{IsPool};
 ghost use Rattle.rq_analysis.specs.Pages.{IsUndone};
 ghost use Rattle.rq_analysis.specs.Rules.{FollowAll};
@@ -31,6 +32,7 @@ pub(crate) fn undo_unfinished<P: PageDevice + Drop, L: LogDevice + Drop, B: Leve
     analysis: &mut Analysis,
     planner: &mut Planner<B>,
 ) -> Result<(), Refusal>
+    requires framed { AreAllFramed pages.old }
     requires found { IsAnalysisOf analysis.old log.old.records }
     requires follow { L.honest log.old.device → FollowAll log.old.records }
     requires running { log.old.failed ≡ false }

@@ -2,6 +2,7 @@ use Rattle.std.proofs.Common.{rules, subst}
 use Rattle.rq_restart.specs.Aborting.{AbortingStops, HasAborted, IsShown}
 use Rattle.rq_restart.proofs.Aborts.{aborted_join, aborted_stops, nothing_gone}
 use Rattle.rq_restart.proofs.Renewing.{cells_same}
+use Rattle.rq_restart.proofs.Framing.{same_framed}
 use Rattle.rq_restart.proofs.aborting.abort_lost.Goals as goal
 
 pub returns-in_err-undo_all_due-clause-stops : goal.returns-in_err-undo_all_due-clause-stops
@@ -37,3 +38,6 @@ undo_all_due-requires-clause-cells g c = cells_same c.args.pages.now c.end_idle.
 
 pub returns-then-all_ended-clause-gone_on : goal.returns-then-all_ended-clause-gone_on
 returns-then-all_ended-clause-gone_on g c = λ k. nothing_gone c.args.pages.now.sizes c.args.log.now.records c.args.pages.now (IsShown c.args.log.now.records c.args.pages.now)
+
+pub undo_all_due-requires-clause-framed : goal.undo_all_due-requires-clause-framed
+undo_all_due-requires-clause-framed g c = same_framed c.args.pages.now c.end_idle.new.pages c.requires.framed c.in_ok-end_idle.ensures.same

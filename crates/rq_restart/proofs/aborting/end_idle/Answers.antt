@@ -11,6 +11,7 @@ use Rattle.rq_restart.proofs.Aborts.{aborted_join, aborted_stops, aborting_none,
 use Rattle.rq_restart.proofs.DueLists.{active_range}
 use Rattle.rq_restart.proofs.Undos.{and_then, none_handed}
 use Rattle.rq_restart.proofs.Rounds.{end_belongs, end_shown, least_in, least_of, shown_way}
+use Rattle.rq_restart.proofs.Framing.{same_framed}
 use Rattle.rq_restart.proofs.aborting.end_idle.Goals as goal
 
 pub append-requires-clause-range : goal.append-requires-clause-range
@@ -85,3 +86,6 @@ returns-in_err-append-clause-stops g c =
     one_stops z (IsAbortingFrom z log old) log r old (IsShown log old) (aborting_none z (RepeatedSince z log (paged old)) log) (Between ended) refusal step (shown_way z log old c.loop-txn.analysis kept.found) (end_belongs z log old c.loop-txn.analysis kept.found t e) in
     let h : g.L.LogDevice.honest c.append.new.log.device → AbortingStops z first c.args.pages.now refusal = λ h. aborted_stops z first log c.args.pages.now old (kept.gone (subst g.L.LogDevice.honest device h)) refusal (here h) in
     search (rules, h)
+
+pub append-requires-clause-framed : goal.append-requires-clause-framed
+append-requires-clause-framed g c = same_framed c.args.pages.now c.loop-txn.pages c.requires.framed c.loop-txn.invariant.same

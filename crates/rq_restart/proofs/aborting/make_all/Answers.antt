@@ -1,4 +1,4 @@
-use Rattle.std.proofs.Common.{◌≡◌, ◌∷◌, ◌+◌, Some, rules, length, take, ◌∙◌, sym, ap, subst, arith, refl}
+use Rattle.std.proofs.Common.{◌≡◌, ◌∷◌, ◌+◌, Some, rules, length, take, ◌∙◌, sym, ap, subst, arith, inl, refl}
 use Rattle.std.specs.List.{slice_get}
 use Rattle.rq_model.specs.declared.record.Record.{Record}
 use Rattle.rq_page.specs.Sizes.{Sizes}
@@ -20,6 +20,7 @@ use Rattle.rq_restart.proofs.Aborts.{gone_join, making_more, one_gone, one_stops
 use Rattle.rq_restart.proofs.Undos.{and_then, none_handed}
 use Rattle.rq_restart.proofs.Renewing.{write_elsewhere}
 use Rattle.rq_restart.proofs.Rounds.{write_belongs, write_rest, write_shown, within_way, get_there}
+use Rattle.rq_restart.proofs.Framing.{handed_framed, slot_framed, stay_framed}
 use Rattle.rq_restart.proofs.aborting.make_all.Goals as goal
 
 pub append-requires-clause-range : goal.append-requires-clause-range
@@ -86,8 +87,8 @@ loop-index-preserved g c =
           (subst (KnowsCells new.sizes old.images) (sym made.planner) (subst (λ y. KnowsCells y old.images c.loop-index.planner) (sym made.stays.sizes) kept.cells));
     }
 
-pub renew-requires : goal.renew-requires
-renew-requires g c =
+pub renew-requires-clause-slot : goal.renew-requires-clause-slot
+renew-requires-clause-slot g c =
     let kept = c.loop-index.invariant in
     let w : SlotWrite = c.index-writes-index.result in
     let slot : IsSlotWrite c.args.pages.now.sizes w = subst (IsSlotWrite c.args.pages.now.sizes) (sym c.index-writes-index.is) (c.requires.slots c.loop-index.index w c.loop-index-test.true) in
@@ -124,3 +125,15 @@ returns-in_err-append-clause-stops g c =
 
 pub append-requires-clause-readable : goal.append-requires-clause-readable
 append-requires-clause-readable g c = subst CanBeRead (sym c.written-undo.ensures) tt
+
+pub append-requires-clause-framed : goal.append-requires-clause-framed
+append-requires-clause-framed g c = handed_framed g.L.LogDevice c.args.pages.now c.loop-index.pages c.args.log.now c.loop-index.log c.requires.framed c.loop-index.invariant.stays
+
+pub renew-requires-clause-hand : goal.renew-requires-clause-hand
+renew-requires-clause-hand g c =
+    let kept = c.loop-index.invariant.stays in
+    let made = c.in_ok-append.ensures.stays in
+    let w : SlotWrite = c.index-writes-index.result in
+    let slot : IsSlotWrite c.args.pages.now.sizes w = subst (IsSlotWrite c.args.pages.now.sizes) (sym c.index-writes-index.is) (c.requires.slots c.loop-index.index w c.loop-index-test.true) in
+    let framed = stay_framed c.args.pages.now c.append.new.pages c.requires.framed (made.sizes ∙ kept.sizes) (made.frames ∙ kept.frames) in
+    inl (slot_framed c.append.new.pages framed w.at (subst (λ (y : Sizes). IsStoreSlot y w.at) (sym (made.sizes ∙ kept.sizes)) slot.place))

@@ -11,29 +11,29 @@ use Rattle.rq_restart.proofs.aborting.plan.Goals as goal
 
 -- each page stands in a frame, so none is read
 pub returns-in-Ok-clause-same : goal.returns-in-Ok-clause-same
-returns-in-Ok-clause-same g c = c.plan_inverse_alone.ensures.read.read.stood c.shows_framed.ensures
+returns-in-Ok-clause-same g c = c.plan_inverse_alone.ensures.read.read.stood c.requires.framed
 
 pub returns-in-Ok-clause-answered : goal.returns-in-Ok-clause-answered
 returns-in-Ok-clause-answered g c =
     let old = c.args.pages.now in
-    let truly = framed_reads g.P.PageDevice (Ok c.in-Ok.writes) old c.plan_inverse_alone.new.pages c.shows_framed.ensures c.in-Ok.ensures.read in
+    let truly = framed_reads g.P.PageDevice (Ok c.in-Ok.writes) old c.plan_inverse_alone.new.pages c.requires.framed c.in-Ok.ensures.read in
     subst (λ (r : Record). IsPlannedAlone old.sizes old.images c.args.planner.now r c.in-Ok.writes.items) c.op_end.ensures (c.in-Ok.ensures.answered truly)
 
 pub returns-in-Ok-clause-back : goal.returns-in-Ok-clause-back
 returns-in-Ok-clause-back g c =
     let old = c.args.pages.now in
     let z = old.sizes in
-    let truly = framed_reads g.P.PageDevice (Ok c.in-Ok.writes) old c.plan_inverse_alone.new.pages c.shows_framed.ensures c.in-Ok.ensures.read in
+    let truly = framed_reads g.P.PageDevice (Ok c.in-Ok.writes) old c.plan_inverse_alone.new.pages c.requires.framed c.in-Ok.ensures.read in
     subst (λ (r : Record). IsTakingBack z (slots_in z old.images) (deed_back r) c.in-Ok.writes.items) c.op_end.ensures (c.in-Ok.ensures.plan truly)
 
 pub returns-in-Err-clause-same : goal.returns-in-Err-clause-same
-returns-in-Err-clause-same g c = c.plan_inverse_alone.ensures.read.read.stood c.shows_framed.ensures
+returns-in-Err-clause-same g c = c.plan_inverse_alone.ensures.read.read.stood c.requires.framed
 
 pub returns-in-Err-clause-stops : goal.returns-in-Err-clause-stops
 returns-in-Err-clause-stops g c =
     let old = c.args.pages.now in
     let z = old.sizes in
-    let truly = framed_reads g.P.PageDevice (Err c.in-Err.refusal) old c.plan_inverse_alone.new.pages c.shows_framed.ensures c.in-Err.ensures.read in
+    let truly = framed_reads g.P.PageDevice (Err c.in-Err.refusal) old c.plan_inverse_alone.new.pages c.requires.framed c.in-Err.ensures.read in
     subst (PlanStops z old.images c.args.due.now) (sym c.blamed.ensures)
     (why_not_planned z old.images c.args.due.now c.in-Err.refusal
     (subst (λ (r : Record). IsRefusedBack z (slots_in z old.images) (deed_back r) c.in-Err.refusal) c.op_end.ensures (c.in-Err.ensures.refused truly)))

@@ -18,6 +18,7 @@ use Rattle.rq_restart.proofs.Aborts.{aborted_join, aborted_stops, aborting_join,
 use Rattle.rq_restart.proofs.DueLists.{due_range, none_behind, none_then, with_first}
 use Rattle.rq_restart.proofs.Undos.{and_then, none_handed, one_read}
 use Rattle.rq_restart.proofs.Rounds.{all_ended, end_rest, ends_next, next_belongs, next_shown, next_way, told_stops}
+use Rattle.rq_restart.proofs.Framing.{handed_framed, stay_framed}
 use Rattle.rq_restart.proofs.aborting.undo_all_due.Goals as goal
 
 pub undo_due-requires-clause-first : goal.undo_due-requires-clause-first
@@ -226,3 +227,12 @@ loop-txn-smaller-in-Continue-branch-3 g c =
     let before = ap length made.rest.1 in
     let behind = ap length rest.0 in
     omega (arith, before, behind)
+
+pub undo_due-requires-clause-framed : goal.undo_due-requires-clause-framed
+undo_due-requires-clause-framed g c = handed_framed g.L.LogDevice c.args.pages.now c.loop-txn.pages c.args.log.now c.loop-txn.log c.requires.framed c.loop-txn.invariant.stays
+
+pub append-requires-clause-framed : goal.append-requires-clause-framed
+append-requires-clause-framed g c =
+    let made = c.in_ok-undo_due.ensures.stays in
+    let kept = c.loop-txn.invariant.stays in
+    stay_framed c.args.pages.now c.undo_due.new.pages c.requires.framed (made.sizes ∙ kept.sizes) (made.frames ∙ kept.frames)

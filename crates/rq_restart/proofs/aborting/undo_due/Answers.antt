@@ -19,6 +19,7 @@ use Rattle.rq_restart.proofs.Aborts.{aborting_none, all_made, closing_aborts, go
 use Rattle.rq_record.specs.Spelling.{IsTxnInRange}
 use Rattle.rq_restart.proofs.DueLists.{as_told, due_range, due_active}
 use Rattle.rq_restart.proofs.Rounds.{bad_due, begin_shown, close_belongs, close_rest, close_shown, few_operations, plan_stops, shown_way, taken_next, within_way}
+use Rattle.rq_restart.proofs.Framing.{handed_framed, same_framed}
 use Rattle.rq_restart.proofs.aborting.undo_due.Goals as goal
 
 pub returns-in_err-writes-clause-stops : goal.returns-in_err-writes-clause-stops
@@ -193,3 +194,11 @@ returns-clause-active g c =
 
 pub returns-clause-cells : goal.returns-clause-cells
 returns-clause-cells g c = cells_same c.make_all.new.pages c.append.new.pages c.make_all.new.planner c.append.new.planner (c.in_ok-append.ensures.same refl) c.append.ensures.planner c.in_ok-make_all.ensures.cells
+
+pub make_all-requires-clause-framed : goal.make_all-requires-clause-framed
+make_all-requires-clause-framed g c = same_framed c.args.pages.now c.plan.new.pages c.requires.framed c.plan.ensures.same
+
+pub append-requires-clause-framed : goal.append-requires-clause-framed
+append-requires-clause-framed g c =
+    let made = rw (c.plan.ensures.same) at c.in_ok-make_all.ensures.stays in
+    handed_framed g.L.LogDevice c.args.pages.now c.make_all.new.pages c.args.log.now c.make_all.new.log c.requires.framed made

@@ -19,6 +19,7 @@ use Rattle.rq_restart.specs.Repeating.{IsRecordRedone, Repeats, paged}
 use Rattle.rq_restart.proofs.Going.{base_is, base_repeated, found_base, stopped_here, stopped_next}
 use Rattle.rq_log.proofs.Keeping.{front_begins}
 use Rattle.rq_restart.proofs.Repeated.{before_from, repeated_read, written_within}
+use Rattle.rq_restart.proofs.Framing.{stay_framed}
 use Rattle.rq_restart.proofs.redo.repeat_history.Goals as goal
 
 pub loop-analysis-preserved : goal.loop-analysis-preserved
@@ -145,3 +146,6 @@ returns-clause-counted g c = λ b.
     let front = c.loop-analysis.reader.records in
     let same : c.next_into.new.self.records ≡ front = (rw c.if-branch.false at c.in_ok-next_into.ensures.none).0 in
     c.loop-analysis.invariant.beyond (length c.next_into.new.self.records) (let e = ap length same in omega (arith, e)) b
+
+pub check_and_redo-requires-clause-framed : goal.check_and_redo-requires-clause-framed
+check_and_redo-requires-clause-framed g c = (let so_far = c.loop-analysis.invariant in stay_framed c.args.pages.now c.loop-analysis.pages c.requires.framed so_far.sizes so_far.frames)

@@ -1,5 +1,7 @@
-use Rattle.std.proofs.Common.{◌≡◌, ◌+◌, ◌∷◌, ℕ, length, ap, sym, ◌∙◌, subst, arith}
+use Rattle.std.proofs.Common.{◌≡◌, ◌+◌, ◌≤◌, ◌∷◌, ℕ, length, ap, sym, ◌∙◌, subst, arith}
 use Rattle.rq_model.specs.declared.record.Record.TheVariants as records
+use Rattle.rq_page.specs.Pages.{lsn_of}
+use Rattle.rq_store.specs.Fitting.{image_in}
 use Rattle.rq_analysis.specs.OpenWorkView.{OpenWorkView}
 use Rattle.rq_restart.specs.Numbers.{NamesFirst}
 use Rattle.rq_restart.specs.Checked.{WasReadAndRedone}
@@ -18,6 +20,7 @@ use Rattle.rq_log.specs.Reading.{IsRead}
 use Rattle.rq_restart.specs.Undoing.{FailsWith}
 use Rattle.rq_restart.proofs.Restarts.{begins_fails, begins_untouched, beyond_shut, gone_through, names_fail, rollback_shut, shut_by}
 use Rattle.rq_engine.specs.Earlier.{rebased}
+use Rattle.rq_restart.proofs.Framing.{handed_framed}
 use Rattle.rq_restart.proofs.restart.finish_restart.Goals as goal
 
 pub begin_incarnation-requires-clause-low : goal.begin_incarnation-requires-clause-low
@@ -49,6 +52,7 @@ returns-in-Ok-begin_incarnation-clause-restarted g c =
           t.incarnation t.records t.unfinished t.lost
           (told.0, told.1, told.2 ∙ c.unfinished-unfinished.ensures ∙ ap (λ (h : OpenWorkView). length h.unfinished) found, told.3 ∙ rollback.lost ∙ ap (λ (h : OpenWorkView). length h.active) found)
           e past);
+      within = λ p low high. (let at : lsn_of (image_in images p) ≤ count = (counted p low high).lsn in omega (arith, at, longer));
       told = subst (λ n. AreTold z images n tables.waiting tables.sent) longer (are_told z images count tables.waiting tables.sent c.in-Ok-read_slots.ensures.waiting c.in-Ok-read_slots.ensures.sent counted);
       known = c.in-Ok-read_slots.ensures.known;
       ready = c.in-Ok-begin_incarnation.ensures.ready;
@@ -173,3 +177,6 @@ returns-in-Err-clause-fails g c =
     let e = c.in-Err.refusal in
     let faults = g.L.LogDevice.faults c.args.log.now.device in
     names_fail c.args.pages.now.sizes c.last.result c.requires.pages.0 e faults (c.in-Err.ensures.names c.args.pages.now.sizes c.requires.pages.0 c.requires.pages.2)
+
+pub read_slots-requires-clause-framed : goal.read_slots-requires-clause-framed
+read_slots-requires-clause-framed g c = handed_framed g.L.LogDevice c.args.pages.now c.undo_all.new.pages c.args.log.now c.undo_all.new.log c.requires.framed c.in-Ok-undo_all.ensures.stays

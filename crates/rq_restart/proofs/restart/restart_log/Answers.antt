@@ -10,6 +10,7 @@ use Rattle.rq_restart.specs.Restarting.{BeginsAtMost}
 use Rattle.rq_restart.specs.RolledBack.{HasRepeated}
 use Rattle.rq_restart.proofs.Moments.{begins_at_most, only_read}
 use Rattle.rq_restart.proofs.Restarts.{shut_by}
+use Rattle.rq_restart.proofs.Framing.{stay_framed}
 use Rattle.rq_restart.proofs.restart.restart_log.Goals as goal
 
 pub returns-in-Ok-finish_restart-clause-opened : goal.returns-in-Ok-finish_restart-clause-opened
@@ -82,3 +83,6 @@ returns-clause-refused g c = record {
 
 pub finish_restart-requires-clause-pages : goal.finish_restart-requires-clause-pages
 finish_restart-requires-clause-pages g c = (paged c.args.pages, c.in-Ok.ensures.repeated, c.in-Ok.ensures.numbers, c.in-Ok.ensures.counted)
+
+pub finish_restart-requires-clause-framed : goal.finish_restart-requires-clause-framed
+finish_restart-requires-clause-framed g c = stay_framed c.args.pages c.read_and_redo.new.pages c.requires.framed c.read_and_redo.ensures.sizes c.read_and_redo.ensures.frames

@@ -10,6 +10,7 @@ use Rattle.rq_restart.specs.Repeating.{ArePagesCounted, Paged, Repeats, paged, s
 use Rattle.rq_restart.proofs.Linking.{link_fails, unlinked_stops}
 use Rattle.rq_restart.proofs.Undos.{and_then}
 use Rattle.rq_restart.proofs.RollingBack.{abort_rolls_nothing_back, rolled_back_since, undo_rolls_nothing_back}
+use Rattle.rq_restart.proofs.Framing.{handed_framed, same_framed, stay_framed}
 use Rattle.rq_restart.proofs.restart.undo_all.Goals as goal
 
 pub returns-in-Ok-clause-rolls_back : goal.returns-in-Ok-clause-rolls_back
@@ -105,3 +106,17 @@ returns-in-Err-clause-stays g c =
     let abort = rw (c.tell_cells.ensures.same) at c.in_ok-abort_lost.ensures in
     subst (λ (p : Pooled _). HandsOverNothing g.L.LogDevice c.args.pages.now p c.args.log.now c.abort_lost.new.log) (sym c.check_links.ensures.same)
     (and_then c.in_ok-undo_unfinished.ensures.stays abort.stays)
+
+pub tell_cells-requires-clause-framed : goal.tell_cells-requires-clause-framed
+tell_cells-requires-clause-framed g c = handed_framed g.L.LogDevice c.args.pages.now c.undo_unfinished.new.pages c.args.log.now c.undo_unfinished.new.log c.requires.framed c.in_ok-undo_unfinished.ensures.stays
+
+pub abort_lost-requires-clause-framed : goal.abort_lost-requires-clause-framed
+abort_lost-requires-clause-framed g c =
+    let framed = handed_framed g.L.LogDevice c.args.pages.now c.undo_unfinished.new.pages c.args.log.now c.undo_unfinished.new.log c.requires.framed c.in_ok-undo_unfinished.ensures.stays in
+    same_framed c.undo_unfinished.new.pages c.tell_cells.new.pages framed c.tell_cells.ensures.same
+
+pub check_links-requires : goal.check_links-requires
+check_links-requires g c =
+    let undo = c.in_ok-undo_unfinished.ensures.stays in
+    let abort = rw (c.tell_cells.ensures.same) at c.in_ok-abort_lost.ensures.stays in
+    record { framed = stay_framed c.args.pages.now c.abort_lost.new.pages c.requires.framed (abort.sizes ∙ undo.sizes) (abort.frames ∙ undo.frames) }

@@ -7,11 +7,11 @@ use Rattle.rq_restart.proofs.tables.tell_cells.Goals as goal
 
 -- each page stands in a frame, so none is read
 pub returns-clause-same : goal.returns-clause-same
-returns-clause-same g c = c.tell.ensures.read.read.stood c.shows_framed.ensures
+returns-clause-same g c = c.tell.ensures.read.read.stood c.requires.framed
 
 pub returns-clause-known : goal.returns-clause-known
 returns-clause-known g c =
-    subst (λ (p : Pooled _). OnOk c.tell.result (KnowsCells p.sizes p.images c.tell.new.self)) (c.tell.ensures.read.read.stood c.shows_framed.ensures) c.tell.ensures.known
+    subst (λ (p : Pooled _). OnOk c.tell.result (KnowsCells p.sizes p.images c.tell.new.self)) (c.tell.ensures.read.read.stood c.requires.framed) c.tell.ensures.known
 
 pub returns-clause-never : goal.returns-clause-never
-returns-clause-never g c = never_unread g.P.PageDevice c.tell.result c.args.pages.now c.tell.new.pages (framed_reads g.P.PageDevice c.tell.result c.args.pages.now c.tell.new.pages c.shows_framed.ensures c.tell.ensures.read) c.tell.ensures.causes
+returns-clause-never g c = never_unread g.P.PageDevice c.tell.result c.args.pages.now c.tell.new.pages (framed_reads g.P.PageDevice c.tell.result c.args.pages.now c.tell.new.pages c.requires.framed c.tell.ensures.read) c.tell.ensures.causes

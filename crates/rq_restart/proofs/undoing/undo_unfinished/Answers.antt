@@ -5,6 +5,7 @@ use Rattle.rq_log.specs.Spelled.{AreSpelled}
 use Rattle.rq_restart.specs.Repeating.{ArePagesCounted, Belongs, IsRecordRedone, Paged, Repeats, paged}
 use Rattle.rq_restart.specs.Undoing.{StepStops, UndoStops}
 use Rattle.rq_restart.proofs.Undos.{and_then, going_more, going_stops, going_waits, like_undo_less, like_undo_range, none_handed, one_read}
+use Rattle.rq_restart.proofs.Framing.{handed_framed}
 use Rattle.rq_restart.proofs.undoing.undo_unfinished.Goals as goal
 
 pub loop-next-init : goal.loop-next-init
@@ -96,3 +97,6 @@ returns-in_err-append-clause-stops g c =
 
 pub returns-clause-stops : goal.returns-clause-stops
 returns-clause-stops g c = tt
+
+pub append-requires-clause-framed : goal.append-requires-clause-framed
+append-requires-clause-framed g c = handed_framed g.L.LogDevice c.args.pages.now c.loop-next.pages c.args.log.now c.loop-next.log c.requires.framed c.loop-next.invariant.stays
