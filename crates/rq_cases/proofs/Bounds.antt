@@ -445,7 +445,7 @@ module _ (n : ℕ) (pages : MemPages) (log : MemLog) (h : Hold pages formatted_p
   full_restart : 2 ^ 50 ≤ n → n < 2 ^ 64 → IsRefused pages log why.LogFull pages log
   full_restart le low =
       let e = length_is n in
-      inr (
+      inr (inl (
         sizes,
         formatted_pages,
         formatted_are,
@@ -474,7 +474,7 @@ module _ (n : ℕ) (pages : MemPages) (log : MemLog) (h : Hold pages formatted_p
             ),
           );
         },
-      )
+      ))
 
   fits_over : (z : Sizes) (first : Paged) (new : MemLog) → n < 2 ^ 50 → StopsOver mem_log z first why.LogFull log new → ⊥
   fits_over z first new low (inl l) = ⊎_elim
@@ -545,7 +545,7 @@ bounds = record {
   restart_fits = λ n pages log new low h. checked n pages log h new low;
   restart_is_full = λ n pages log le low h. full_restart n pages log h le low;
   restart_full_where_it_fits = λ n pages new_pages log new_log low h s.
-      ⊎_elim (λ p. p.0) (λ l. fits_restart n pages log h l.0 _ new_log low l.5) s;
+      ⊎_elim (λ p. p.0) (⊎_elim (λ l. fits_restart n pages log h l.0 _ new_log low l.5) (λ w. (let e = w.is in cc e))) s;
 } where
   length_more : (n : ℕ) → length (one_begun n).records ≡ n + 1
   length_more n = (let e = length_is n in omega (arith, e))

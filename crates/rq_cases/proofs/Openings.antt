@@ -144,9 +144,9 @@ full_read z first old new s = s.read (λ e. cc e)
 
 pub refusals : RefusalsAreJudged
 refusals = record {
-  unfinished = λ pages new_pages log new_log s. ⊎_elim (λ p. p.0) (λ l. never_unfinished l.0 _ log new_log l.5) s;
-  log_touched = λ pages new_pages log new_log other s. ⊎_elim (λ p. p.0) (λ l. other (full_read l.0 _ log new_log l.5).same) s;
-  otherwise = λ pages new_pages log new_log s. ⊎_elim (λ p. p.0) (λ l. never_stops l.0 _ log new_log l.5) s;
+  unfinished = λ pages new_pages log new_log s. ⊎_elim (λ p. p.0) (⊎_elim (λ l. never_unfinished l.0 _ log new_log l.5) (λ w. (let e = w.is in cc e))) s;
+  log_touched = λ pages new_pages log new_log other s. ⊎_elim (λ p. p.0) (⊎_elim (λ l. other (full_read l.0 _ log new_log l.5).same) (λ w. (let e = w.is in cc e))) s;
+  otherwise = λ pages new_pages log new_log s. ⊎_elim (λ p. p.0) (⊎_elim (λ l. never_stops l.0 _ log new_log l.5) (λ w. (let e = w.is in cc e))) s;
   one_open = λ old new s. never_unfinished sizes read_pages old new s;
   begins_not_of_five = λ s. ⊎_elim (λ e. omega (arith, e)) (λ e. omega (arith, e)) s.0;
   may_not_be_shut = λ s. s;

@@ -1,7 +1,7 @@
 -- Each function of a world, over the devices in memory.
 use Rattle.rq_model.specs.Causes.{HasCause, calls_device, reads_pages, starts_one, writes_out}
 use Rattle.std.proofs.lemmas.Bool.{or_right}
-use Rattle.std.proofs.Common.{◌||◌, ◌↔◌, Bool, false, ◌≡◌, List, [], ◌∷◌, arith, refl, sym, ◌∙◌, ap, subst, true, Some, Result, Ok, Err, IfErr, ⊎_elim}
+use Rattle.std.proofs.Common.{◌||◌, ◌↔◌, Bool, false, ◌≡◌, ℕ, List, [], ◌∷◌, arith, refl, sym, ◌∙◌, ap, subst, true, Some, Result, Ok, Err, IfErr, IfOk, ⊎_elim}
 use Rattle.rq_model.specs.declared.refusal.Refusal.{Refusal}
 use Rattle.rq_model.specs.declared.refusal.Refusal.TheVariants as why
 use Rattle.rq_model.specs.History.{Entry, Call}
@@ -27,10 +27,11 @@ use Rattle.rq_engine.specs.declared.event.Reply.{Reply}
 use Rattle.rq_engine.specs.declared.event.Reply.TheVariants as reply
 use Rattle.rq_engine.specs.Earlier.{on}
 use Rattle.rq_restart.specs.Once.{OneLogEach, OneSizeEach}
-use Rattle.rq_restart.specs.Opens.{KeepsStores, Refuses}
+use Rattle.rq_restart.specs.Opens.{KeepsStores, Opens, Refuses}
 use Rattle.rq_restart.specs.Underway.{pages_left, log_left}
 use Rattle.rq_restart.specs.declared.restart.Report.{Report}
 use Rattle.rq_restart.specs.declared.restart.Stopped.{Stopped}
+use Rattle.rq_core.specs.Chosen.{HasFrames}
 use Rattle.rq_core.specs.Devices.{mem_pages, mem_log}
 use Rattle.rq_core.specs.Happenings.{Happening, Answer, AddsCall, growth_in, Course, MayCrashIt, Tells, called, is_of_device, EndsWithoutCrash, MayRestart, is_no_crash}
 use Rattle.rq_core.specs.Happenings.Answer.{Answered, Crashed, Refused, Restarted}
@@ -101,6 +102,15 @@ pub shut_ends : (z : Sizes) (course : Course) (pages : MemPages) (log : MemLog) 
 shut_ends z course pages log fifo stay law ran =
     headline mem_pages mem_log (λ d. tt) (λ d. tt) z fifo stay course ran.history pages log ran.tells ran.legal
     (leaves_shut mem_pages mem_log (λ d. tt) (λ d. tt) z law ran.history pages log ran.legal ran.stands) ran.counted
+
+-- a restart that opened a store, in so many frames
+pub opened_in : (pages : MemPages) (log : MemLog) (frames : ℕ) (r : Result (Engine × Report) (Stopped MemPages MemLog)) → IfOk r (λ o. Opens mem_pages mem_log pages log frames o.0 o.1) → IfOk r (λ o. IsOpened pages log o.1 o.0)
+opened_in pages log frames (Ok o) opens = record { frames = frames; opens = opens }
+opened_in pages log frames (Err s) opens = tt
+
+pub framed_in : (pages : MemPages) (log : MemLog) (frames : ℕ) (r : Result (Engine × Report) (Stopped MemPages MemLog)) → IfOk r (λ o. Opens mem_pages mem_log pages log frames o.0 o.1) → IfOk r (λ o. HasFrames frames (Is_open o.0))
+framed_in pages log frames (Ok o) opens = opens.frames
+framed_in pages log frames (Err s) opens = tt
 
 -- a restart that was refused
 pub stays : (pages : MemPages) (log : MemLog) (r : Result (Engine × Report) (Stopped MemPages MemLog)) → IfErr r (λ s. Refuses mem_pages mem_log pages log s.refusal s.pages s.log) → KeepsStores mem_pages mem_log pages log (pages_left r) (log_left r)

@@ -4,13 +4,12 @@ use Rattle.std.proofs.Math.Seq.{take-suc}
 use Rattle.std.proofs.lemmas.List.{length-take-le}
 use Rattle.rq_disk.specs.declared.mem_log.MemLog.{MemLog}
 use Rattle.rq_disk.specs.declared.mem_pages.MemPages.{MemPages}
-use Rattle.rq_page.specs.Sizes.{Sizes}
 use Rattle.rq_core.specs.declared.happening.Entry.{Entry}
 use Rattle.rq_core.specs.declared.happening.Happening.{Happening as Happens}
 use Rattle.rq_core.specs.Happenings.{Answer, paired}
 use Rattle.rq_core.specs.Happenings.Answer.{Crashed}
 use Rattle.rq_core.specs.Chosen.{DoneSoFar, IfCrashed, IsChosen, Outlives, LedAsChosen, course_in, entered}
-use Rattle.rq_core.specs.Runs.{Led, MemWorld}
+use Rattle.rq_core.specs.Runs.{Fresh, Led, MemWorld}
 use Rattle.rq_core.specs.Views.{answer_in, course, happens}
 
 pub if_crashed : (a : Answer) (said : Type 0) → said → IfCrashed a said
@@ -28,12 +27,12 @@ entered_course done [] [] = refl
 entered_course done [] (e ∷ es) = refl
 entered_course done (x ∷ xs) [] = refl
 
-led_in : (z : Sizes) (done : DoneSoFar) (world : MemWorld) → LedAsChosen z done world → Led z (course_in done) world
-led_in z [] world led = led
-led_in z (a ∷ done) world led = (led.0, led_in z done led.0 led.1, led.2)
+led_in : (first : Fresh) (done : DoneSoFar) (world : MemWorld) → LedAsChosen first done world → Led first.sizes (course_in done) world
+led_in first [] world led = led
+led_in first (a ∷ done) world led = (led.0, led_in first done led.0 led.1, led.2)
 
-pub led_of : (z : Sizes) (xs : List Happens) (es : List Entry) (world : MemWorld) → LedAsChosen z (entered [] xs es) world → Led z (course xs es) world
-led_of z xs es world led = subst (λ c. Led z c world) (entered_course [] xs es) (led_in z (entered [] xs es) world led)
+pub led_of : (first : Fresh) (xs : List Happens) (es : List Entry) (world : MemWorld) → LedAsChosen first (entered [] xs es) world → Led first.sizes (course xs es) world
+led_of first xs es world led = subst (λ c. Led first.sizes c world) (entered_course [] xs es) (led_in first (entered [] xs es) world led)
 
 pub course_is : (xs : List Happens) (es : List Entry) → course_in (entered [] xs es) ≡ course xs es
 course_is xs es = entered_course [] xs es

@@ -145,8 +145,8 @@ module _ (size_once : OneSizeEach) (met : (z : Sizes) (course : Course) (w : Mem
       let ran : Ran z course (Is_shut pages log) = met z course (Is_shut pages log) led in
       let here : IsShut mem_pages mem_log z ran.history pages log = ran.stands in
       let there = read_of mem_pages mem_log (λ d. tt) (λ d. tt) z some_page some_log ran.history pages log here in
-      let told : Reports new.state.sizes there.read new.state.records report.incarnation report.records report.unfinished report.lost = (opened.over there.read (record { honest = tt; are_spelled = there.told; reads = there.reads })).reports in
-      let is : new.state.sizes ≡ sizes_at z ran.history = size_once new.state.sizes (sizes_at z ran.history) (mem_pages.seen pages 0) (opened.sizes tt) (record { range = here.range; formatted = there.left.fits.superblock }) in
+      let told : Reports new.state.sizes there.read new.state.records report.incarnation report.records report.unfinished report.lost = (opened.opens.over there.read (record { honest = tt; are_spelled = there.told; reads = there.reads })).reports in
+      let is : new.state.sizes ≡ sizes_at z ran.history = size_once new.state.sizes (sizes_at z ran.history) (mem_pages.seen pages 0) (opened.opens.sizes tt) (record { range = here.range; formatted = there.left.fits.superblock }) in
       let whole : IsWhole new.state.sizes there.read = subst (λ y. IsWhole y there.read) (sym is) there.left.whole in
       record { read = there.read; reads = there.reads; whole = whole; unfinished_are = told.unfinished_are whole; lost_are = told.lost_are whole; records_are = told.records_are }
 

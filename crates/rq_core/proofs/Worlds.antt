@@ -355,7 +355,8 @@ module _ {P L : Type 0} (p : page_device.Ghosts P) (l : log_device.Ghosts L) (ho
         pub stands : IsOpen p l z (Restarted_entry report.incarnation report.records ∷ h) new
 
       pub reopened : (size_once : OneSizeEach) (goes : RestartGoesOn (size_of z)) (h : List Entry) (pages : P) (log : L) (report : Report) (new : OpenStore P L) → IsLegal (size_of z) h → IsShut p l z h pages log → IsOpened p l pages log report new → IsReopened h report new
-      reopened size_once goes h pages log report new legal s o =
+      reopened size_once goes h pages log report new legal s opens =
+          let o = opens.opens in
           let r = read_of h pages log s in
           let now : List Record = r.read in
           let past : List Record = earlier now in
@@ -363,8 +364,7 @@ module _ {P L : Type 0} (p : page_device.Ghosts P) (l : log_device.Ghosts L) (ho
           let read : IsReadAs l log new.log now = record { honest = honest_l new.log; are_spelled = r.told; reads = r.reads } in
           let is : new.state.sizes ≡ sizes_at z h = size_once new.state.sizes (sizes_at z h) (p.seen pages 0) (o.sizes (honest_p new.pages)) (record { range = s.range; formatted = r.left.fits.superblock }) in
           let on_left : IsLeftOn p new.state.sizes pages new.pages now = record { honest = honest_p new.pages; left = subst (λ y. IsLeft y (p.seen pages) now) (sym is) r.left } in
-          let over = o.over now read in
-          let opened = over.value in
+          let opened = (o.over now read).value in
           let back = o.recovers now read on_left in
           let rolled_back = drop 1 new.state.records in
           let all = rebased past rolled_back in
@@ -384,7 +384,7 @@ module _ {P L : Type 0} (p : page_device.Ghosts P) (l : log_device.Ghosts L) (ho
               long = opened_earlier now new.state opened r.told whole.based;
               ledger = entry;
               sound = back.sound;
-              devices = inl (record { untried = o.untried; stays = shut_told (size_of z) h legal s.phase; fit = over.fit whole.based (subst (λ y. AllFit (p.may_be pages) y now) (sym is) (all_fit h pages log s r)) });
+              devices = inl (record { untried = o.untried; stays = shut_told (size_of z) h legal s.phase; fit = back.fit whole.based (subst (λ y. AllFit (p.may_be pages) y now) (sym is) (all_fit h pages log s r)) });
             };
           }
 

@@ -1,11 +1,11 @@
--- What a crash leaves of both devices is what was chosen, in memory.
-use Rattle.std.specs.Prelude.{◌≡◌, ℕ, ◌-◌, ◌^◌, ◌<◌, List, [], ◌∷◌, map, Option, None, slice_get}
+-- What a crash leaves of both devices is what was chosen, in memory; and so is in how many frames a restart opens a store.
+use Rattle.std.specs.Prelude.{◌≡◌, ℕ, ◌+◌, ◌-◌, ◌^◌, ◌<◌, List, [], ◌∷◌, length, map, min, Option, None, slice_get}
 use Rattle.rq_model.specs.declared.refusal.Refusal.{Refusal}
 use Rattle.rq_disk.specs.Memory.{crashed_log, crashed_page, fresh_log, reads}
 use Rattle.rq_disk.specs.Shown.{log_of, page_count, pages_of}
 use Rattle.rq_disk.specs.declared.mem_log.MemLog.{MemLog}
 use Rattle.rq_disk.specs.declared.mem_pages.MemPages.{MemPages}
-use Rattle.rq_page.specs.Sizes.{Sizes}
+use Rattle.rq_page.specs.Sizes.{page_count as count_of}
 use Rattle.rq_engine.specs.declared.event.Event.{Event}
 use Rattle.rq_engine.specs.declared.event.Event.TheVariants as event
 use Rattle.rq_engine.specs.declared.event.Reply.{Reply}
@@ -19,7 +19,7 @@ use Rattle.rq_core.specs.Devices.{mem_pages, mem_log}
 use Rattle.rq_core.specs.Happenings.{Answer, Course}
 use Rattle.rq_core.specs.Happenings.Answer.{Crashed}
 use Rattle.rq_core.specs.Happened as happened
-use Rattle.rq_core.specs.Runs.{GivesUp, Happened, IsRefused, MemWorld}
+use Rattle.rq_core.specs.Runs.{Fresh, GivesUp, Happened, IsRefused, MemWorld}
 use Rattle.rq_core.specs.Views.{answer_in, happens}
 use Rattle.rq_core.specs.World.World.{Is_open, Is_shut}
 
@@ -66,15 +66,30 @@ outlives choice = record { keep = choice.keep; torn = choice.bytes; places = sli
 abbrev pub all_outlives : Outlives
 all_outlives = record { keep = 2 ^ 64 - 1; torn = 0; places = λ page. None }
 
--- a crash leaves what the happening chose, and of a store that is not open all that its devices hold
-abbrev pub IsAsChosen : Happens → MemWorld → Answer → MemWorld → Type 0
-IsAsChosen (happening.Crash choice) (Is_open old) answer new = OpenLeavesChosen (outlives choice) event.HandOver old new
-IsAsChosen (happening.Crash choice) (Is_shut pages log) answer new = IsChosen all_outlives pages log new
-IsAsChosen (happening.StopIn e place choice) (Is_open old) answer new =
+-- where it is open, it has so many frames beside that of the superblock; or one for each page, where these are fewer
+abbrev pub HasFrames : ℕ → MemWorld → Type 0
+HasFrames frames (Is_open engine) = length engine.frames ≡ min (count_of engine.state.sizes) (frames + 1)
+HasFrames frames (Is_shut pages log) = Unit {0}
+
+-- a crash leaves of an open store what the happening chose
+abbrev pub OpenAsChosen : Happens → OpenStore MemPages MemLog → Answer → MemWorld → Type 0
+OpenAsChosen (happening.Crash choice) old answer new = OpenLeavesChosen (outlives choice) event.HandOver old new
+OpenAsChosen (happening.StopIn e place choice) old answer new =
     IfCrashed answer (OpenLeavesChosen (outlives choice) e old new)
-IsAsChosen (happening.RestartStop place choice) (Is_shut pages log) answer new =
-    IfCrashed answer (ShutLeavesChosen (outlives choice) pages log new)
-IsAsChosen _ _ _ _ = Unit {0}
+OpenAsChosen _ _ _ _ = Unit {0}
+
+-- Of a store that is not open it leaves all that its devices hold, and in a restart what the happening chose. A restart opens it in
+-- so many frames.
+abbrev pub ShutAsChosen : ℕ → Happens → MemPages → MemLog → Answer → MemWorld → Type 0
+ShutAsChosen frames (happening.Crash choice) pages log answer new = IsChosen all_outlives pages log new
+ShutAsChosen frames happening.Restart pages log answer new = HasFrames frames new
+ShutAsChosen frames (happening.RestartStop place choice) pages log answer new =
+    IfCrashed answer (ShutLeavesChosen (outlives choice) pages log new) × HasFrames frames new
+ShutAsChosen _ _ _ _ _ _ = Unit {0}
+
+abbrev pub IsAsChosen : ℕ → Happens → MemWorld → Answer → MemWorld → Type 0
+IsAsChosen frames x (Is_open old) answer new = OpenAsChosen x old answer new
+IsAsChosen frames x (Is_shut pages log) answer new = ShutAsChosen frames x pages log answer new
 
 -- what happened, with the entries, the newest first
 abbrev pub DoneSoFar : Type 0
@@ -87,14 +102,17 @@ abbrev pub entered : DoneSoFar → List Happens → List Entry → DoneSoFar
 entered done (x ∷ xs) (e ∷ es) = entered ((x, e) ∷ done) xs es
 entered done _ _ = done
 
--- it led to this world, one happening after the other, and each crash left what was chosen
-abbrev pub LedAsChosen : Sizes → DoneSoFar → MemWorld → Type 0
-LedAsChosen z [] world = happened.Begins mem_pages mem_log z world
-LedAsChosen z (a ∷ done) world = (met : MemWorld) × LedAsChosen z done met
-    × Happened (course_in done) (happens a.0) met (answer_in a.1) world × IsAsChosen a.0 met (answer_in a.1) world
+-- It led to this world, one happening after the other. Each crash left what was chosen, and each restart gave as many frames as
+-- were asked for.
+abbrev pub LedAsChosen : Fresh → DoneSoFar → MemWorld → Type 0
+LedAsChosen first [] world = happened.Begins mem_pages mem_log first.sizes world
+LedAsChosen first (a ∷ done) world = (met : MemWorld) × LedAsChosen first done met
+    × Happened (course_in done) (happens a.0) met (answer_in a.1) world
+    × IsAsChosen first.frames a.0 met (answer_in a.1) world
 
 -- so it was run, and these are the devices at its end
-pub record IsRunAsChosen (z : Sizes) (xs : List Happens) (es : List Entry) (pages : MemPages) (log : MemLog) : Type 0 where
+pub record IsRunAsChosen (first : Fresh) (xs : List Happens) (es : List Entry) (pages : MemPages) (log : MemLog)
+    : Type 0 where
   pub end : MemWorld
-  pub led : LedAsChosen z (entered [] xs es) end
+  pub led : LedAsChosen first (entered [] xs es) end
   pub given : GivesUp end pages log

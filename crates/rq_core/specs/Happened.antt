@@ -77,9 +77,10 @@ module _ {P L : Type 0} (p : page_device.Ghosts P) (l : log_device.Ghosts L) whe
     pub applied : Applied p l old event told mid
     pub crashed : IsCrashed mid.pages pages mid.log log count
 
-  -- a restart opened the store that stands on these devices
-  abbrev pub IsOpened : P → L → Report → OpenStore P L → Type 0
-  IsOpened pages log report new = restart.Opens p l pages log new report
+  -- a restart opened the store that stands on these devices, in some frames
+  pub record IsOpened (pages : P) (log : L) (report : Report) (new : OpenStore P L) : Type 0 where
+    pub frames : ℕ
+    pub opens : restart.Opens p l pages log frames new report
 
   -- a restart refused to open it for this, and left the devices so
   pub record IsRefused (pages : P) (log : L) (refusal : Refusal) (new_pages : P) (new_log : L) : Type 0 where

@@ -1,5 +1,5 @@
 -- What the functions of a world do, over devices in memory.
-use Rattle.std.specs.Prelude.{◌≡◌, [], Some}
+use Rattle.std.specs.Prelude.{◌≡◌, ℕ, [], Some}
 use Rattle.rq_model.specs.History.{Call}
 use Rattle.rq_model.specs.declared.refusal.Refusal.{Refusal}
 use Rattle.rq_disk.specs.declared.mem_log.MemLog.{MemLog}
@@ -71,6 +71,11 @@ Makes call course x = called course x ≡ Some call
 -- it is this one
 abbrev pub Is : Happening → Course → Happening → Type 0
 Is y course x = x ≡ y
+
+-- what is asked for before anything happens: how large the store is, and in how many frames each restart opens it
+pub record Fresh : Type 0 where
+  pub sizes : Sizes
+  pub frames : ℕ
 
 -- a store that is formatted: whatever a crash leaves of it is a store with no record
 pub record IsFresh (z : Sizes) (pages : MemPages) (log : MemLog) : Type 0 where

@@ -3,10 +3,9 @@
 ghost use Rattle.std.specs.Prelude.{◌≡◌, ◌++◌, [], ◌∷◌, IfOk, IfErr, IsTrue, Some, None, length, map, option_map, slice_get, true};
 ghost use Rattle.rq_model.specs.History.{Call};
 ghost use Rattle.rq_model.specs.History.Call.{Acknowledge};
-ghost use Rattle.rq_page.specs.Sizes.{Sizes};
 ghost use Rattle.rq_engine.specs.Says.{call_of};
 ghost use Rattle.rq_disk.specs.Choice.{place_of};
-ghost use Rattle.rq_core.specs.Chosen.{all_outlives, IfCrashed, IsAsChosen, IsChosen, IsRunAsChosen, OpenLeavesChosen, ShutLeavesChosen};
+ghost use Rattle.rq_core.specs.Chosen.{all_outlives, HasFrames, IfCrashed, IsAsChosen, IsChosen, IsRunAsChosen, OpenAsChosen, OpenLeavesChosen, ShutAsChosen, ShutLeavesChosen};
 ghost use Rattle.rq_core.specs.Happenings.{Course, acknowledging, answers_of, is_of_device, nth};
 ghost use Rattle.rq_core.specs.Happenings.Happening.{Crashes, Restarts, Stops_in, Stops_restart};
 ghost use Rattle.rq_core.specs.Runs.{GivesUp, Happened, HappensIn, Is, IsFresh, IsHeadline, IsLeftBy, IsOpened, IsRefused, IsRun, Makes};
@@ -24,6 +23,7 @@ use rq_log::last_lsn;
 use rq_model::refusal::Refusal;
 use rq_page::layout::Layout;
 use rq_planner::StoreLevels;
+use rq_pool::frame_count::FrameCount;
 use rq_restart::format::format;
 use rq_restart::restart::{Report, Stopped, restart};
 use std::alloc::{AllocError, Global};
@@ -35,17 +35,17 @@ pub struct World {
     alloc: Global,
     switch: Switch,
     layout: Layout,
+    frames: FrameCount,
     pages: MemPages,
     log: MemLog,
 }
 
 impl Model for World {
-    ghost use Rattle.rq_core.specs.Runs.{IsFresh};
-    ghost use Rattle.rq_page.specs.Sizes.{Sizes};
+    ghost use Rattle.rq_core.specs.Runs.{Fresh, IsFresh};
 
-    ghost Value = { Sizes };
+    ghost Value = { Fresh };
 
-    ghost view = { λ w. w.layout };
+    ghost view = { λ w. record { sizes = w.layout; frames = w.frames.count } };
 
     ghost invariant = { λ w. IsFresh w.layout w.pages w.log };
 }
@@ -66,11 +66,17 @@ enum WorldState<B: Level> {
 
 impl World {
     /// A formatted store with these pages, over devices in memory, which have room for so many pages more. It is not open.
+    /// Each restart opens it in so many frames.
     ///
     /// # Errors
     /// Where memory is wanting.
-    pub fn new(alloc: Global, layout: Layout, room: u32) -> Result<World, AllocError>
-        ensures { IfOk result (λ w. w ≡ layout) }
+    pub fn new(
+        alloc: Global,
+        layout: Layout,
+        room: u32,
+        frames: FrameCount,
+    ) -> Result<World, AllocError>
+        ensures { IfOk result (λ w. w ≡ record { sizes = layout; frames = frames.count }) }
     {
         let switch = Switch::new(alloc)?;
         let count = layout.pages().saturating_add(room);
@@ -81,6 +87,7 @@ impl World {
                 alloc,
                 switch,
                 layout,
+                frames,
                 pages,
                 log,
             }),
@@ -93,6 +100,7 @@ impl World {
     /// each crash keeps what it must, and each restart opens what was left. Whatever a crash at its end leaves is a
     /// store with exactly the content of the commits that it keeps. Each acknowledged commit is one of them. Each
     /// restart of a store that is not open takes the last of the sets of levels; those that are left over are dropped.
+    /// It opens the store in as many frames as were asked for.
     ///
     /// # Errors
     /// Where memory is wanting, or no set of levels is left for a restart.
@@ -102,21 +110,30 @@ impl World {
         mut sets: Vec<StoreLevels<B>>,
     ) -> Result<RunResult, AllocError>
         ensures each { IfOk result (λ o. length o.entries.items ≡ length happenings.now) }
-        ensures run { IfOk result (λ o. IsRun self (course happenings.now o.entries.items) o.pages o.log) }
+        ensures run { IfOk result (λ o. IsRun self.sizes (course happenings.now o.entries.items) o.pages o.log) }
         ensures chosen { IfOk result (λ o. IsRunAsChosen self happenings.now o.entries.items o.pages o.log) }
-        ensures headline { IfOk result (λ o. IsHeadline self (course happenings.now o.entries.items) o.pages o.log) }
+        ensures headline { IfOk result (λ o. IsHeadline self.sizes (course happenings.now o.entries.items) o.pages o.log) }
     {
         let mut entries = Vec::with_capacity(self.alloc, happenings.len())?;
         let World {
             alloc,
             switch,
             layout: _,
+            frames,
             pages,
             log,
         } = self;
         let mut store = WorldState::Shut(pages, log);
         for happening in happenings {
-            store = happen_next(alloc, &switch, store, happening, &mut entries, &mut sets)?;
+            store = happen_next(
+                alloc,
+                &switch,
+                frames,
+                store,
+                happening,
+                &mut entries,
+                &mut sets,
+            )?;
         }
         a_run_is_told();
         let (pages, log) = given_up(store);
@@ -132,6 +149,7 @@ impl World {
 fn happen_next<B: Level>(
     alloc: Global,
     switch: &Switch,
+    frames: FrameCount,
     store: WorldState<B>,
     happening: &Happening,
     entries: &mut Vec<Entry>,
@@ -140,9 +158,9 @@ fn happen_next<B: Level>(
     ensures { IfOk result (λ next. (entry : Entry) × (entries.new.items ≡ entries.old.items ++ entry ∷ [])
         × ((c : Course) → answers_of c ≡ map answer_in entries.old.items
         → Happened c (happens happening.now) (world_of store) (answer_in entry) (world_of next))
-        × IsAsChosen happening.now (world_of store) (answer_in entry) (world_of next)) }
+        × IsAsChosen frames.count happening.now (world_of store) (answer_in entry) (world_of next)) }
 {
-    let (next, entry) = happen(alloc, switch, store, happening, entries, sets)?;
+    let (next, entry) = happen(alloc, switch, frames, store, happening, entries, sets)?;
     match entries.push(entry) {
         Ok(()) => Ok(next),
         Err(_) => {
@@ -156,6 +174,7 @@ fn happen_next<B: Level>(
 fn happen<B: Level>(
     alloc: Global,
     switch: &Switch,
+    frames: FrameCount,
     store: WorldState<B>,
     happening: &Happening,
     entries: &[Entry],
@@ -163,13 +182,14 @@ fn happen<B: Level>(
 ) -> Result<(WorldState<B>, Entry), AllocError>
     ensures happened { IfOk result (λ r. (c : Course) → answers_of c ≡ map answer_in entries.now
         → Happened c (happens happening.now) (world_of store) (answer_in r.1) (world_of r.0)) }
-    ensures chosen { IfOk result (λ r. IsAsChosen happening.now (world_of store) (answer_in r.1) (world_of r.0)) }
+    ensures chosen { IfOk result (λ r. IsAsChosen frames.count happening.now (world_of store) (answer_in r.1)
+        (world_of r.0)) }
 {
     match store {
         WorldState::Open(engine) => happen_to_open(switch, engine, happening, entries),
-        WorldState::Shut(pages, log) => {
-            happen_to_shut(alloc, switch, pages, log, happening, entries, sets)
-        }
+        WorldState::Shut(pages, log) => happen_to_shut(
+            alloc, switch, frames, pages, log, happening, entries, sets,
+        ),
     }
 }
 
@@ -181,7 +201,7 @@ fn happen_to_open<B: Level>(
 ) -> Result<(WorldState<B>, Entry), AllocError>
     ensures happened { IfOk result (λ r. (c : Course) → answers_of c ≡ map answer_in entries.now
         → Happened c (happens happening.now) (Is_open engine) (answer_in r.1) (world_of r.0)) }
-    ensures chosen { IfOk result (λ r. IsAsChosen happening.now (Is_open engine) (answer_in r.1) (world_of r.0)) }
+    ensures chosen { IfOk result (λ r. OpenAsChosen happening.now engine (answer_in r.1) (world_of r.0)) }
 {
     match happening {
         Happening::Call(event) => Ok(ask(engine, event)),
@@ -216,6 +236,7 @@ fn happen_to_open<B: Level>(
 fn happen_to_shut<B: Level>(
     alloc: Global,
     switch: &Switch,
+    frames: FrameCount,
     pages: MemPages,
     log: MemLog,
     happening: &Happening,
@@ -224,7 +245,8 @@ fn happen_to_shut<B: Level>(
 ) -> Result<(WorldState<B>, Entry), AllocError>
     ensures happened { IfOk result (λ r. (c : Course) → answers_of c ≡ map answer_in entries.now
         → Happened c (happens happening.now) (Is_shut pages log) (answer_in r.1) (world_of r.0)) }
-    ensures chosen { IfOk result (λ r. IsAsChosen happening.now (Is_shut pages log) (answer_in r.1) (world_of r.0)) }
+    ensures chosen { IfOk result (λ r. ShutAsChosen frames.count happening.now pages log (answer_in r.1)
+        (world_of r.0)) }
 {
     match happening {
         Happening::Call(_) | Happening::StopIn(..) => Ok(not_open(pages, log)),
@@ -239,7 +261,7 @@ fn happen_to_shut<B: Level>(
         Happening::Crash(_) => Ok(crash_shut(pages, log)),
         Happening::Restart => {
             let levels = next_set(sets)?;
-            Ok(reopen(alloc, pages, log, levels))
+            Ok(reopen(alloc, pages, log, levels, frames))
         }
         Happening::RestartStop(n, choice) => {
             let images = images(choice)?;
@@ -250,6 +272,7 @@ fn happen_to_shut<B: Level>(
                 pages,
                 log,
                 levels,
+                frames,
                 *n,
                 choice.keep,
                 choice.bytes,
@@ -350,16 +373,18 @@ fn is_stopped(switch: &Switch) -> bool {
     stopped
 }
 
-// Opens the store.
+// Opens the store, in so many frames.
 fn reopen<B: Level>(
     alloc: Global,
     pages: MemPages,
     log: MemLog,
     levels: StoreLevels<B>,
+    frames: FrameCount,
 ) -> (WorldState<B>, Entry)
-    ensures { HappensIn (Is Restarts) (Is_shut pages log) (answer_in result.1) (world_of result.0) }
+    ensures happened { HappensIn (Is Restarts) (Is_shut pages log) (answer_in result.1) (world_of result.0) }
+    ensures frames { HasFrames frames.count (world_of result.0) }
 {
-    match try_restart(alloc, pages, log, levels) {
+    match try_restart(alloc, pages, log, levels, frames) {
         Ok((engine, report)) => (WorldState::Open(engine), Entry::Restarted(report)),
         Err(stopped) => (
             WorldState::Shut(stopped.pages, stopped.log),
@@ -368,13 +393,14 @@ fn reopen<B: Level>(
     }
 }
 
-// Opens the store; the power fails at the nth device call of that.
+// Opens the store, in so many frames; the power fails at the nth device call of that.
 fn reopen_stopped<B: Level>(
     alloc: Global,
     switch: &Switch,
     pages: MemPages,
     log: MemLog,
     levels: StoreLevels<B>,
+    frames: FrameCount,
     n: u64,
     keep: u64,
     torn: u64,
@@ -386,9 +412,10 @@ fn reopen_stopped<B: Level>(
       torn = torn;
       places = place_of images;
     }) pages log (world_of result.0)) }
+    ensures frames { HasFrames frames.count (world_of result.0) }
 {
     switch.arm_call(n, Mishap::Stop);
-    let restarted = try_restart(alloc, pages, log, levels);
+    let restarted = try_restart(alloc, pages, log, levels, frames);
     let power_failed = is_stopped(switch);
     match restarted {
         Ok((engine, report)) => (WorldState::Open(engine), Entry::Restarted(report)),
@@ -408,11 +435,13 @@ fn try_restart<B: Level>(
     pages: MemPages,
     log: MemLog,
     levels: StoreLevels<B>,
+    frames: FrameCount,
 ) -> Result<(Engine<MemPages, MemLog, B>, Report), Stopped<MemPages, MemLog>>
     ensures opened { IfOk result (λ o. IsOpened pages log o.1 o.0) }
+    ensures frames { IfOk result (λ o. HasFrames frames.count (Is_open o.0)) }
     ensures refused { IfErr result (λ s. IsRefused pages log s.refusal s.pages s.log) }
 {
-    restart(alloc, pages, log, levels)
+    restart(alloc, pages, log, levels, frames)
 }
 
 // Both devices as the crash leaves them.

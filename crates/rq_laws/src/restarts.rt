@@ -7,11 +7,12 @@ use rq_disk::{LogDevice, PageDevice};
 use rq_engine::engine::Engine;
 use rq_level::Level;
 use rq_planner::StoreLevels;
+use rq_pool::frame_count::FrameCount;
 use rq_restart::restart::{Report, Stopped, restart};
 use std::alloc::Global;
 
-/// Two restarts over one log begin the same incarnation, and report the same of it. What else an opened store has
-/// follows from its sizes, pages and records. Excludes an incarnation that is given again, and with it transaction
+/// Two restarts over one log, in as many frames, begin the same incarnation, and report the same of it. What else the lists
+/// of an opened store have follows from its sizes, pages and records. Excludes an incarnation that is given again, and with it transaction
 /// numbers. Excludes last tags, or how many messages wait, that come from elsewhere than the directory. Excludes cells
 /// that are counted otherwise.
 pub fn restarts<P: PageDevice + Drop, L: LogDevice + Drop, B: Level>(
@@ -22,6 +23,7 @@ pub fn restarts<P: PageDevice + Drop, L: LogDevice + Drop, B: Level>(
     log_again: L,
     levels: StoreLevels<B>,
     levels_again: StoreLevels<B>,
+    frames: FrameCount,
 ) -> (
     Result<(Engine<P, L, B>, Report), Stopped<P, L>>,
     Result<(Engine<P, L, B>, Report), Stopped<P, L>>,
@@ -39,8 +41,8 @@ pub fn restarts<P: PageDevice + Drop, L: LogDevice + Drop, B: Level>(
         → a.0.state.records ≡ b.0.state.records → a.0.state ≡ b.0.state)) }
 {
     (
-        restart(alloc, pages, log, levels),
-        restart(alloc, again, log_again, levels_again),
+        restart(alloc, pages, log, levels, frames),
+        restart(alloc, again, log_again, levels_again, frames),
     )
 }
 
@@ -51,9 +53,10 @@ pub fn leaves_one<P: PageDevice + Drop, L: LogDevice + Drop, B: Level>(
     pages: P,
     log: L,
     levels: StoreLevels<B>,
+    frames: FrameCount,
 ) -> Result<(Engine<P, L, B>, Report), Stopped<P, L>>
     ensures { IfOk result (λ o. L.honest o.0.log → (c d : List ℕ) → L.may_leave o.0.log c → L.may_leave o.0.log d
         → c ≡ d) }
 {
-    restart(alloc, pages, log, levels)
+    restart(alloc, pages, log, levels, frames)
 }

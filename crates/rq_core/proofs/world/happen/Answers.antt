@@ -12,5 +12,5 @@ returns-in-Open-clause-happened g c =
 
 pub returns-in-Open-clause-chosen : goal.returns-in-Open-clause-chosen
 returns-in-Open-clause-chosen g c =
-    subst (λ s. IfOk c.happen_to_open.result (λ r. IsAsChosen c.args.happening.now (world_of s) (answer_in r.1) (world_of r.0)))
+    subst (λ s. IfOk c.happen_to_open.result (λ r. IsAsChosen c.args.frames.count c.args.happening.now (world_of s) (answer_in r.1) (world_of r.0)))
     (sym c.in-Open.is) c.happen_to_open.ensures.chosen

@@ -2,8 +2,8 @@ use Rattle.std.proofs.Common.{refl, subst, sym}
 use Rattle.rq_core.specs.Happenings.{MayRestart}
 use Rattle.rq_core.proofs.world.reopen.Goals as goal
 
-pub returns-in-Err : goal.returns-in-Err
-returns-in-Err g c = λ course x is. (subst (MayRestart course) (sym is) refl, c.in-Err.ensures.refused)
+pub returns-in-Err-clause-happened : goal.returns-in-Err-clause-happened
+returns-in-Err-clause-happened g c = λ course x is. (subst (MayRestart course) (sym is) refl, c.in-Err.ensures.refused)
 
-pub returns-in-Ok : goal.returns-in-Ok
-returns-in-Ok g c = λ course x is. (subst (MayRestart course) (sym is) refl, c.in-Ok.ensures.opened)
+pub returns-in-Ok-clause-happened : goal.returns-in-Ok-clause-happened
+returns-in-Ok-clause-happened g c = λ course x is. (subst (MayRestart course) (sym is) refl, c.in-Ok.ensures.opened)

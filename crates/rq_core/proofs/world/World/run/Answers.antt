@@ -1,4 +1,4 @@
-use Rattle.std.proofs.Common.{◌+◌, [], length, take, sym, ◌∙◌, ap, subst, arith}
+use Rattle.std.proofs.Common.{◌+◌, [], get_or, length, take, sym, ◌∙◌, ap, subst, arith}
 use Rattle.std.proofs.lemmas.List.{length_push, take_all}
 use Rattle.rq_core.specs.Chosen.{IsAsChosen, LedAsChosen, course_in, entered}
 use Rattle.rq_core.specs.Runs.{Happened}
@@ -11,7 +11,7 @@ use Rattle.rq_core.proofs.world.World.run.Goals as goal
 pub loop-happening-init : goal.loop-happening-init
 loop-happening-init g c = record {
   each = ap length c.in_ok-entries.ensures.items;
-  led = subst (λ es. LedAsChosen c.args.self (entered [] [] es) (Is_shut c.self.inside.pages c.self.inside.log)) (sym c.in_ok-entries.ensures.items) (subst (λ z. LedAsChosen z [] (Is_shut c.self.inside.pages c.self.inside.log)) c.self.view_is (c.self.invariant.range, c.self.invariant.left));
+  led = subst (λ es. LedAsChosen c.args.self (entered [] [] es) (Is_shut c.self.inside.pages c.self.inside.log)) (sym c.in_ok-entries.ensures.items) (subst (λ first. LedAsChosen first [] (Is_shut c.self.inside.pages c.self.inside.log)) c.self.view_is (c.self.invariant.range, c.self.invariant.left));
 }
 
 pub loop-happening-preserved : goal.loop-happening-preserved
@@ -34,7 +34,8 @@ loop-happening-preserved g c =
         subst (λ h. Happened (course_in (entered [] (take i xs) es)) (happens h) met (answer_in entry) left) c.happening-item.is
             (subst (λ k. Happened k (happens c.happening-item.result) met (answer_in entry) left) (sym (course_is (take i xs) es))
             (next.2 (course (take i xs) es) (told_so_far xs es i (omega (arith, within)) count))),
-        subst (λ h. IsAsChosen h met (answer_in entry) left) c.happening-item.is next.3,
+        subst (λ first. IsAsChosen first.frames (get_or xs i c.happening-item.result) met (answer_in entry) left) c.self.view_is
+            (subst (λ h. IsAsChosen c.self.inside.frames.count h met (answer_in entry) left) c.happening-item.is next.3),
       );
     }
 
@@ -63,7 +64,7 @@ pub returns-clause-headline : goal.returns-clause-headline
 returns-clause-headline g c =
     let xs = c.args.happenings.now in
     let end = c.loop-happening-test.false in
-    c.a_run_is_told.ensures.headline c.args.self (course xs c.loop-happening.entries.items) c.given_up-pages.result.0 c.given_up-pages.result.1
+    c.a_run_is_told.ensures.headline c.args.self.sizes (course xs c.loop-happening.entries.items) c.given_up-pages.result.0 c.given_up-pages.result.1
     (record {
       end = world_of c.loop-happening.store;
       led = led_of c.args.self xs c.loop-happening.entries.items (world_of c.loop-happening.store)
