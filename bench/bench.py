@@ -1,5 +1,6 @@
 #!/usr/bin/env python3
-"""Times `rqm run`: N transactions of one send and as many of one receive, over 64 cell pages, with a force every 100 commits.
+"""Times `rqm run`: N transactions of one send and as many of one receive, over 64 cell pages, each page in a frame, with a force every
+100 commits.
 
 Runs N and 2N transactions of each kind, and prints for both the time, the peak memory, and what a transaction took. Build the
 program first (`rt run` in crates/rqm).
@@ -42,7 +43,7 @@ def run(program, count, folder):
     script = os.path.join(folder, f"script-{count}")
     output = os.path.join(folder, f"output-{count}")
     write_script(script, count)
-    words = [program, "run", "--directory", "1", "--cells", str(CELL_PAGES)]
+    words = [program, "run", "--directory", "1", "--cells", str(CELL_PAGES), "--frames", str(1 + CELL_PAGES)]
     with open(script) as stdin, open(output, "w") as stdout:
         start = time.monotonic()
         child = subprocess.Popen(words, stdin=stdin, stdout=stdout)

@@ -62,9 +62,11 @@ class Server:
 
 
 def rqm(program, folder, workers):
-    words = [program, "format", folder, "--directory", "64", "--cells", "4000"]
+    """Over a store all of whose pages are in memory."""
+    directory, cells = 64, 4000
+    words = [program, "format", folder, "--directory", str(directory), "--cells", str(cells)]
     subprocess.run(words, check=True, stdout=subprocess.DEVNULL)
-    words = [program, "serve", folder, "--port", "0", "--workers", str(workers)]
+    words = [program, "serve", folder, "--port", "0", "--workers", str(workers), "--frames", str(directory + cells)]
     server = Server(words, 0, {f"rqm, workers {workers}": "rqm"})
     line = server.process.stdout.readline().decode()
     listening = re.fullmatch(r"listening 127\.0\.0\.1:(\d+)\n", line)

@@ -34,6 +34,7 @@ ROWS = [
     (["calls", "4", "2"], b"", "7168 calls\n"),
     (["happenings", "1", "1"], b"restart\n", "restarted 1 0 0 1\n"),
     (["happenings", "1", "1", "1"], b"restart\ntag 14\n", "restarted 1 0 0 1\ntag 0 0\n"),
+    (["happenings", "1", "1", "0", "8"], b"restart\n", "restarted 1 0 0 1\n"),
 ]
 
 MOST_SECONDS = 60  # of one run of the program
@@ -51,7 +52,8 @@ REFUSED = [
     (["calls", "2", "1"], b""),
     (["happenings", "0", "1"], b"restart\n"),
     (["happenings", "1", "1", "0.5"], b"restart\n"),
-    (["happenings", "1", "1", "1", "1"], b"restart\n"),
+    (["happenings", "1", "1", "1", "7"], b"restart\n"),
+    (["happenings", "1", "1", "1", "8", "8"], b"restart\n"),
     (["other"], b""),
     ([], b""),
 ]

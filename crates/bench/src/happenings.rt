@@ -10,18 +10,20 @@ use rq_core::happening::{Entry, Happening};
 use rq_core::world::{RunResult, World};
 use rq_levels::sets_of_levels;
 use rq_page::layout::Layout;
+use rq_pool::frame_count::FrameCount;
 use std::alloc::{AllocError, Global};
 use std::io;
 use std::io::Write;
 
 /// Lets what standard input says happen to a store in memory, a happening a line, and prints what each came to. The store has as many
-/// pages as the words say; it is formatted, and not open before the first `restart`.
+/// pages as the words say; it is formatted, and not open before the first `restart`. Each opens it in as many frames as they say, or
+/// as there may be.
 ///
 /// # Errors
 /// Where the words name no store, memory is wanting, or input or output fails. Where a line is no happening it is named, and nothing
 /// happens.
 pub fn run<R: Print + Input + AllocGlobal>(rt: &R, words: &[String]) -> io::Result<()> {
-    let Some(layout) = layout_of(words) else {
+    let (Some(layout), Some(frames)) = (layout_of(words), frames_of(words)) else {
         return Err(io::ErrorKind::InvalidInput.into());
     };
     let lines = input(rt)?;
@@ -32,7 +34,7 @@ pub fn run<R: Print + Input + AllocGlobal>(rt: &R, words: &[String]) -> io::Resu
         io::writer(rt).write_all(&output)?;
         return Err(io::ErrorKind::InvalidData.into());
     }
-    let entries = entries_of(rt.alloc(), layout, &list)?;
+    let entries = entries_of(rt.alloc(), layout, frames, &list)?;
     print_all(&mut output, &entries)?;
     io::writer(rt).write_all(&output)
 }
@@ -41,15 +43,28 @@ pub fn run<R: Print + Input + AllocGlobal>(rt: &R, words: &[String]) -> io::Resu
 fn layout_of(words: &[String]) -> Option<Layout> {
     let tags = match words.len() {
         3 => 0,
-        4 => number(words, 3)?,
+        4 | 5 => number(words, 3)?,
         _ => return None,
     };
     Layout::new(number(words, 1)?, number(words, 2)?, tags)
 }
 
-fn entries_of(alloc: Global, layout: Layout, list: &List) -> Result<Vec<Entry>, AllocError> {
+// In how many frames it is opened; none where the words say too few or too many.
+fn frames_of(words: &[String]) -> Option<FrameCount> {
+    if words.len() < 5 {
+        return Some(FrameCount::most());
+    }
+    FrameCount::new(number(words, 4)?)
+}
+
+fn entries_of(
+    alloc: Global,
+    layout: Layout,
+    frames: FrameCount,
+    list: &List,
+) -> Result<Vec<Entry>, AllocError> {
     run_world(
-        World::new(alloc, layout, list.room)?,
+        World::new(alloc, layout, list.room, frames)?,
         alloc,
         &list.happenings,
         list.restarts,

@@ -11,7 +11,7 @@
 //! | `open FOLDER` | opens it, or says why not |
 //! | `checkpoint FOLDER SENT RECEIVED` | opens it, sends messages, receives some of the first sender, and makes its log one record |
 //! | `calls THREADS BATCHES` | makes calls by one thread or by four |
-//! | `happenings DIRECTORY CELLS [TAGS]` | lets what standard input says happen to a store in memory |
+//! | `happenings DIRECTORY CELLS [TAGS [FRAMES]]` | lets what standard input says happen to a store in memory |
 #![tactic(auto)]
 
 mod beside;

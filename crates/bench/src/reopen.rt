@@ -7,6 +7,7 @@ use rq_files::{Fault, FolderLog, format_folder, open_folder};
 use rq_levels::{StoreLevel, levels_of_store};
 use rq_model::refusal::{Damage, Refusal};
 use rq_page::layout::Layout;
+use rq_pool::frame_count::FrameCount;
 use rq_restart::restart::{Report, restart};
 use std::fs::File;
 use std::io;
@@ -172,6 +173,7 @@ fn report_of<R: AllocGlobal + Files<File = File>>(rt: &R, folder: &str) -> Resul
     }
 }
 
+// Opens the store of a folder, in as many frames as there may be.
 fn opened<'a, R: AllocGlobal + Files<File = File>>(
     rt: &'a R,
     folder: &str,
@@ -183,7 +185,7 @@ fn opened<'a, R: AllocGlobal + Files<File = File>>(
     let Ok(levels) = levels_of_store(rt.alloc()) else {
         return Err(Fault::Refused(Refusal::NoMemory));
     };
-    match restart(rt.alloc(), pages, log, levels) {
+    match restart(rt.alloc(), pages, log, levels, FrameCount::most()) {
         Ok(opened) => Ok(opened),
         Err(stopped) => Err(Fault::Refused(stopped.refusal)),
     }

@@ -3,6 +3,7 @@ use rq_disk::{MemLog, MemPages, Switch};
 use rq_engine::engine::Engine;
 use rq_levels::{StoreLevel, levels_of_store};
 use rq_page::layout::Layout;
+use rq_pool::frame_count::FrameCount;
 use rq_restart::format::format;
 use rq_restart::restart::restart;
 use std::alloc::Global;
@@ -10,14 +11,14 @@ use std::alloc::Global;
 /// An engine over devices in memory.
 pub type Store = Engine<MemPages, MemLog, StoreLevel>;
 
-/// A store of these sizes, formatted and opened.
+/// A store of these sizes, formatted and opened in as many frames as there may be.
 pub fn new_engine(alloc: Global, layout: Layout) -> Option<Store> {
     let (mut pages, log) = devices(alloc, &layout)?;
     if format(&mut pages, &layout).is_err() {
         return None;
     }
     let levels = levels_of_store(alloc).ok()?;
-    match restart(alloc, pages, log, levels) {
+    match restart(alloc, pages, log, levels, FrameCount::most()) {
         Ok((engine, _)) => Some(engine),
         Err(_) => None,
     }

@@ -9,19 +9,21 @@ use crate::store::Memory;
 use rq_level::Level;
 use rq_page::layout::{Layout, TAGS_LIMIT};
 use rq_planner::StoreLevels;
+use rq_pool::frame_count::FrameCount;
 use std::alloc::Global;
 use std::io;
 use std::io::{Read, Write};
 
 /// Runs a script to its end, or to a fault, and answers the exit status: 0, or 1 after a fault. What its commands print
-/// is written as they are carried out. A script's refusals are lines like any other. The opening takes a set of levels,
-/// the last one that is left, and so does each restart. A `restart N` that makes no more than N records takes two.
-/// Where none is left, `fault 1 NoMemory` is printed.
+/// is written as they are carried out. A script's refusals are lines like any other. Each opening has the store in so many
+/// frames. The first takes a set of levels, the last one that is left, and so does each restart. A `restart N` that makes no
+/// more than N records takes two. Where none is left, `fault 1 NoMemory` is printed.
 pub fn run_script<R: Read, W: Write, B: Level>(
     alloc: Global,
     reader: &mut R,
     writer: &mut W,
     layout: Layout,
+    frames: FrameCount,
     sets: Vec<StoreLevels<B>>,
 ) -> u8
     ensures status { result ≤ 1 }
@@ -31,7 +33,7 @@ pub fn run_script<R: Read, W: Write, B: Level>(
         let _ = writer.write_all(b"fault input\n");
         return 1;
     }
-    match run_lines(alloc, &input, writer, layout, sets) {
+    match run_lines(alloc, &input, writer, layout, frames, sets) {
         Ok(status) => status,
         Err(_) => 1,
     }
@@ -69,6 +71,7 @@ fn run_lines<W: Write, B: Level>(
     input: &[u8],
     writer: &mut W,
     layout: Layout,
+    frames: FrameCount,
     sets: Vec<StoreLevels<B>>,
 ) -> io::Result<u8>
     ensures status { IfOk result (λ status. status ≤ 1) }
@@ -77,7 +80,7 @@ fn run_lines<W: Write, B: Level>(
         writer.write_all(b"fault 1 NoMemory\n")?;
         return Ok(1);
     };
-    match Memory::formatted(alloc, &layout, room_wanted(input), sets) {
+    match Memory::formatted(alloc, &layout, room_wanted(input), frames, sets) {
         Ok((memory, devices)) => run_over(alloc, memory, devices, input, writer, &mut output),
         Err(refusal) => {
             CommandResult::Fault(refusal).print(&mut output);

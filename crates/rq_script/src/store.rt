@@ -10,6 +10,7 @@ use rq_model::refusal::Refusal;
 use rq_model::txn::Lsn;
 use rq_page::layout::Layout;
 use rq_planner::StoreLevels;
+use rq_pool::frame_count::FrameCount;
 use rq_restart::format::format;
 use rq_restart::restart::{Report, Stopped, restart};
 use rq_shared::kept::Kept;
@@ -23,16 +24,20 @@ const PASS: u64 = 1;
 pub struct Memory<B: Level> {
     alloc: Global,
     switch: Switch,
+    /// In how many frames each opening has the store.
+    frames: FrameCount,
     /// The sets of levels that are left; each opening takes the last of them.
     sets: Vec<StoreLevels<B>>,
 }
 
 impl<B: Level> Memory<B> {
-    /// A formatted store that is opened with these sets, and its devices. They have room for so many pages more.
+    /// A formatted store that is opened in so many frames with these sets, and its devices. They have room for so many pages
+    /// more.
     pub fn formatted(
         alloc: Global,
         layout: &Layout,
         room: u32,
+        frames: FrameCount,
         sets: Vec<StoreLevels<B>>,
     ) -> Result<(Memory<B>, (MemPages, MemLog)), Refusal> {
         let Ok((switch, mut pages, log)) = devices(alloc, layout.pages().saturating_add(room))
@@ -43,6 +48,7 @@ impl<B: Level> Memory<B> {
         let memory = Memory {
             alloc,
             switch,
+            frames,
             sets,
         };
         Ok((memory, (pages, log)))
@@ -56,7 +62,7 @@ impl<B: Level> Medium<Kept<MemPages, MemLog, B>, (MemPages, MemLog)> for Memory<
     ) -> Result<(Kept<MemPages, MemLog, B>, Report), (Refusal, (MemPages, MemLog))> {
         let (pages, log) = devices;
         match self.sets.pop() {
-            Some(levels) => open(self.alloc, pages, log, levels),
+            Some(levels) => open(self.alloc, pages, log, levels, self.frames),
             None => Err((Refusal::NoMemory, (pages, log))),
         }
     }
@@ -124,14 +130,15 @@ fn format_all<P: PageDevice>(pages: &mut P, layout: &Layout) -> Result<(), Refus
     format(pages, layout)
 }
 
-// Opens the store that the devices hold.
+// Opens the store that the devices hold, in so many frames.
 fn open<P: PageDevice + Drop, L: LogDevice + Drop, B: Level>(
     alloc: Global,
     pages: P,
     log: L,
     levels: StoreLevels<B>,
+    frames: FrameCount,
 ) -> Result<(Kept<P, L, B>, Report), (Refusal, (P, L))> {
-    match restart(alloc, pages, log, levels) {
+    match restart(alloc, pages, log, levels, frames) {
         Ok((engine, report)) => Ok((Kept::new(alloc, engine), report)),
         Err(
             Stopped {

@@ -8,6 +8,7 @@ use rq_engine::engine::Engine;
 use rq_level::Level;
 use rq_page::layout::Layout;
 use rq_planner::StoreLevels;
+use rq_pool::frame_count::FrameCount;
 use rq_restart::format::format;
 use rq_restart::restart::restart;
 use std::alloc::{AllocError, Global};
@@ -66,7 +67,7 @@ fn opened<B: Level>(
     log: MemLog,
     levels: StoreLevels<B>,
 ) -> Option<Engine<MemPages, MemLog, B>> {
-    match restart(alloc, pages, log, levels) {
+    match restart(alloc, pages, log, levels, FrameCount::most()) {
         Ok((engine, _)) => Some(engine),
         Err(_) => None,
     }

@@ -10,6 +10,7 @@ use rq_level::Level;
 use rq_model::txn::{Sub, Txn};
 use rq_page::layout::Layout;
 use rq_planner::StoreLevels;
+use rq_pool::frame_count::FrameCount;
 use rq_restart::format::format;
 use rq_restart::restart::restart;
 use std::alloc::{AllocError, Global};
@@ -232,7 +233,7 @@ fn run_with<B: Level>(
     levels: StoreLevels<B>,
     rows: &[Row],
 ) -> Result<Left, &'static str> {
-    match restart(alloc, pages, log, levels) {
+    match restart(alloc, pages, log, levels, FrameCount::most()) {
         Ok((engine, report)) => Ok(left_by(alloc, engine, report.incarnation, rows)),
         Err(_) => Err("restart"),
     }

@@ -7,6 +7,7 @@ use rq_level::Level;
 use rq_levels::{StoreLevel, levels_of_store};
 use rq_model::txn::{Sub, Txn};
 use rq_page::layout::Layout;
+use rq_pool::frame_count::FrameCount;
 use rq_restart::format::format;
 use rq_restart::restart::restart;
 use rq_shared::kept::{AuditEntry, Kept, Stamped};
@@ -68,7 +69,7 @@ pub fn opened<P: PageDevice + Drop, L: LogDevice + Drop>(
     let Ok(levels) = levels_of_store(alloc) else {
         return Err("memory");
     };
-    match restart(alloc, pages, log, levels) {
+    match restart(alloc, pages, log, levels, FrameCount::most()) {
         Ok((engine, _)) => Ok(engine),
         Err(_) => Err("restart"),
     }

@@ -15,11 +15,11 @@ use Rattle.rq_store.specs.Opening.{IsLeft}
 use Rattle.rqm.specs.Holding.{HoldStore}
 
 pub was_sound : {P L : Type 0} (p : page_device.Ghosts P) (l : log_device.Ghosts L) (pages : P) (log : L)
-    (images : ℕ → List ℕ) (bytes : List ℕ) (e : OpenStore P L) (report : Report)
+    (frames : ℕ) (images : ℕ → List ℕ) (bytes : List ℕ) (e : OpenStore P L) (report : Report)
     → p.seen pages ≡ images → l.seen log ≡ bytes
-    → Opens p l pages log e report
+    → Opens p l pages log frames e report
     → WasSound p l (HoldStore images bytes) e
-was_sound p l pages log images bytes e report seen read opened held honest =
+was_sound p l pages log frames images bytes e report seen read opened held honest =
     let z = e.state.sizes in
     let first = subst (λ (i : ℕ → List ℕ). IsSuperblock z (i 0)) seen (opened.sizes honest.0) in
     let told : IsReadAs l log e.log held.records = record {

@@ -1,6 +1,9 @@
 //! The words of the command line.
+ghost use Rattle.std.specs.Prelude.{◌≡◌};
+
 use clap::{Arg, ArgAction, ArgMatches, Command, Error};
 use rq_page::layout::{CELLS_LIMIT, DIRECTORY_LIMIT, Layout, TAGS_LIMIT};
+use rq_pool::frame_count::FrameCount;
 use std::alloc::{AllocError, Global};
 use std::io::ErrorKind;
 use std::rt::Env;
@@ -9,10 +12,8 @@ use std::{env, io};
 /// What `rqm --version` prints.
 const VERSION: &str = "0.1.0";
 
-/// The fewest and the most frames that a pool may have. For now the pool holds all pages.
-const FEWEST_FRAMES: i64 = 8;
-
-const MOST_FRAMES: i64 = 67_585;
+/// In how many frames a store is opened where the words don't say it.
+const FRAMES: u32 = 64;
 
 /// How many threads serve connections where the words don't say it, and at most.
 const WORKERS: u32 = 4;
@@ -22,8 +23,8 @@ const MOST_WORKERS: i64 = 64;
 /// What the words ask for.
 #[derive(Drop)]
 pub enum Args {
-    /// A script over a store of this layout, in memory.
-    Run(Layout),
+    /// A script over a store of this layout, in memory, which is opened in so many frames.
+    Run(Layout, FrameCount),
     /// A new store of this layout, in this folder.
     Format(String, Layout),
     /// A server over the store in a folder.
@@ -53,6 +54,8 @@ pub struct Serve {
     pub until_input_ends: bool,
     /// From how many bytes on of its log a checkpoint is made; 0 for never.
     pub checkpoint_after: u64,
+    /// In how many frames the store is opened.
+    pub frames: FrameCount,
 }
 
 /// Reads the words of the process. Words that are not accepted, one that is not UTF-8 among them, and those that ask for
@@ -91,7 +94,7 @@ fn parse(alloc: Global, words: &[String]) -> Result<Option<Args>, Error> {
 // What the words ask for, which were accepted.
 fn asked(alloc: Global, matches: &ArgMatches<'_>) -> Result<Option<Args>, AllocError> {
     match matches.subcommand() {
-        Some(("run", run)) => Ok(layout(run).map(Args::Run)),
+        Some(("run", run)) => Ok(script(run)),
         Some(("format", format)) => store(alloc, format),
         Some(("serve", serve)) => server(alloc, serve),
         Some(("checkpoint", checkpoint)) => { Ok(folder(alloc, checkpoint)?.map(Args::Checkpoint)) }
@@ -99,6 +102,10 @@ fn asked(alloc: Global, matches: &ArgMatches<'_>) -> Result<Option<Args>, AllocE
         Some(("inspect", inspect)) => Ok(folder(alloc, inspect)?.map(Args::Inspect)),
         _ => Ok(None),
     }
+}
+
+fn script(run: &ArgMatches<'_>) -> Option<Args> {
+    Some(Args::Run(layout(run)?, frames_of(run)?))
 }
 
 fn store(alloc: Global, format: &ArgMatches<'_>) -> Result<Option<Args>, AllocError> {
@@ -109,8 +116,11 @@ fn store(alloc: Global, format: &ArgMatches<'_>) -> Result<Option<Args>, AllocEr
 }
 
 fn server(alloc: Global, matches: &ArgMatches<'_>) -> Result<Option<Args>, AllocError> {
-    let (Some(folder), Some(port)) = (folder(alloc, matches)?, matches.get_one::<u16>("port"))
-    else {
+    let (Some(folder), Some(port), Some(frames)) = (
+        folder(alloc, matches)?,
+        matches.get_one::<u16>("port"),
+        frames_of(matches),
+    ) else {
         return Ok(None);
     };
     Ok(Some(Args::Serve(Serve {
@@ -120,6 +130,7 @@ fn server(alloc: Global, matches: &ArgMatches<'_>) -> Result<Option<Args>, Alloc
         sessions: matches.get_one::<u64>("sessions").unwrap_or(0),
         until_input_ends: matches.get_flag("until-input-ends"),
         checkpoint_after: matches.get_one::<u64>("checkpoint-after").unwrap_or(0),
+        frames,
     })))
 }
 
@@ -143,6 +154,20 @@ fn layout(matches: &ArgMatches<'_>) -> Option<Layout> {
     let cells = matches.get_one::<u32>("cells")?;
     let tags = matches.get_one::<u32>("tags").unwrap_or(0);
     Layout::new(directory, cells, tags)
+}
+
+/// In how many frames a store is opened by a command that has no word for it.
+pub fn usual_frames() -> FrameCount
+    ensures { result.count ≡ 64 }
+{
+    match FrameCount::new(FRAMES) {
+        Some(frames) => frames,
+        None => FrameCount::most(),
+    }
+}
+
+fn frames_of(matches: &ArgMatches<'_>) -> Option<FrameCount> {
+    FrameCount::new(matches.get_one::<u32>("frames").unwrap_or(FRAMES))
 }
 
 fn command<'a>(alloc: Global) -> Result<Command<'a>, AllocError> {
@@ -272,8 +297,10 @@ fn checkpoint_after<'a>(alloc: Global) -> Arg<'a> {
 }
 
 fn frames<'a>(alloc: Global) -> Arg<'a> {
-    let help = "Pages that are kept in memory; makes no difference yet, all are";
-    number(alloc, "frames", help, FEWEST_FRAMES, MOST_FRAMES)
+    let help =
+        "Pages that are kept in memory beside the superblock once the store is open, else 64";
+    let (fewest, most) = (i64::from(FrameCount::FEWEST), i64::from(FrameCount::MOST));
+    number(alloc, "frames", help, fewest, most)
 }
 
 fn directory<'a>(alloc: Global) -> Arg<'a> {

@@ -3,6 +3,7 @@ ghost use Rattle.std.specs.Prelude.{◌≡◌, ◌↔◌, IfErr, IfOk, Err, true
 ghost use Rattle.rq_engine.specs.Answers.{AnswersLegally};
 ghost use Rattle.rqm.specs.Changing.{HasChanged, NotChanged, answered_by, call_made};
 
+use crate::args::usual_frames;
 use crate::progress::{Opening, while_told};
 use crate::serving::{opened, tell_fault};
 use rq_disk::{LogDevice, PageDevice, Unknown};
@@ -93,7 +94,7 @@ fn make_change<R: AllocGlobal + Print + Eprint + Files<File = File> + Renames>(
     change: Change,
     opening: &Opening,
 ) -> io::Result<u8> {
-    match opened(rt, folder, change.room(), Unknown) {
+    match opened(rt, folder, change.room(), usual_frames(), Unknown) {
         Ok((mut engine, report)) => {
             opening.end();
             let status = tell_change(rt, &mut engine, &report, change);

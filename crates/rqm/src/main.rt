@@ -13,6 +13,7 @@ use inspect::run_inspect;
 use rq_files::{Measures, Renames, run_format};
 use rq_levels::sets_of_levels;
 use rq_page::layout::Layout;
+use rq_pool::frame_count::FrameCount;
 use rq_script::{run_script, sets_wanted};
 use serving::run_serve;
 use std::fs::{File, OpenOptions};
@@ -70,7 +71,7 @@ fn run<
 >(rt: &R) -> io::Result<u8> {
     let mut writer = io::writer(rt);
     Ok(match args::read(rt)? {
-        Args::Run(layout) => run_input(rt, &mut writer, layout)?,
+        Args::Run(layout, frames) => run_input(rt, &mut writer, layout, frames)?,
         Args::Format(folder, layout) => run_format(rt, &mut writer, folder.as_str(), &layout),
         Args::Serve(asked) => run_serve(rt, &asked)?,
         Args::Checkpoint(folder) => run_change(rt, folder.as_str(), Change::Checkpoint)?,
@@ -85,6 +86,7 @@ fn run_input<R: Input + AllocGlobal, W: Write>(
     rt: &R,
     writer: &mut W,
     layout: Layout,
+    frames: FrameCount,
 ) -> io::Result<u8> {
     let alloc = rt.alloc();
     let mut script = Vec::new(alloc);
@@ -97,5 +99,5 @@ fn run_input<R: Input + AllocGlobal, W: Write>(
         return Ok(1);
     };
     let mut reader = script.as_slice();
-    Ok(run_script(alloc, &mut reader, writer, layout, sets))
+    Ok(run_script(alloc, &mut reader, writer, layout, frames, sets))
 }

@@ -1,5 +1,6 @@
 //! The server over a store of files.
-ghost use Rattle.std.specs.Prelude.{◌≡◌, IfOk};
+ghost use Rattle.std.specs.Prelude.{◌≡◌, ◌+◌, IfOk, length, min};
+ghost use Rattle.rq_page.specs.Sizes.{page_count};
 ghost use Rattle.rq_shared.specs.Entries.{WasSound};
 ghost use Rattle.rqm.specs.Holding.{HoldStore};
 
@@ -10,6 +11,7 @@ use rq_engine::engine::Engine;
 use rq_files::{Fault, FolderLog, Measures, NotOpened, Renames, look_at_layout, open_folder};
 use rq_levels::{StoreLevel, levels_of_store};
 use rq_model::refusal::Refusal;
+use rq_pool::frame_count::FrameCount;
 use rq_restart::restart::{Report, restart};
 use rq_server::{LogLength, Plan, Stopped, serve};
 use rq_shared::shared::Shared;
@@ -104,7 +106,7 @@ fn opened_and_bound<
         (HoldStore S.pages S.bytes) o.0) }
 {
     let began = Instant::now(rt);
-    match opened(rt, asked.folder.as_str(), 0, held) {
+    match opened(rt, asked.folder.as_str(), 0, asked.frames, held) {
         Ok((engine, report)) => {
             opening.end();
             tell_opened(rt, &report, millis_since(rt, began));
@@ -137,7 +139,7 @@ fn listening<
     }
 }
 
-/// The store of a folder, opened. Where it has no tag pages there is room for so many.
+/// The store of a folder, opened in so many frames. Where it has no tag pages there is room for so many.
 ///
 /// # Errors
 /// Why it is not.
@@ -145,10 +147,12 @@ pub fn opened<'a, S: FileContents, R: AllocGlobal + Eprint + Files<File = File> 
     rt: &'a R,
     folder: &str,
     room: u32,
+    frames: FrameCount,
     held: S,
 ) -> Result<(Store<'a, S, R>, Report), Fault>
-    ensures { IfOk result (λ o. WasSound ⟦<FilePages<S> as PageDevice>⟧ ⟦<FolderLog<'a, S, R> as LogDevice>⟧
+    ensures sound { IfOk result (λ o. WasSound ⟦<FilePages<S> as PageDevice>⟧ ⟦<FolderLog<'a, S, R> as LogDevice>⟧
         (HoldStore S.pages S.bytes) o.0) }
+    ensures frames { IfOk result (λ o. length o.0.frames ≡ min (page_count o.0.state.sizes) (frames.count + 1)) }
 {
     let (pages, log) = match open_folder(rt, folder, room, held) {
         Ok(files) => files,
@@ -162,7 +166,7 @@ pub fn opened<'a, S: FileContents, R: AllocGlobal + Eprint + Files<File = File> 
         drop(pages);
         return Err(Fault::Refused(Refusal::NoMemory));
     };
-    match restart(rt.alloc(), pages, log, levels) {
+    match restart(rt.alloc(), pages, log, levels, frames) {
         Ok(opened) => Ok(opened),
         Err(stopped) => Err(Fault::Refused(stopped.refusal)),
     }
