@@ -52,6 +52,15 @@ class Cases:
         file = self.folder / f"{name}.words"
         return file.read_text().split() if file.exists() else self.words
 
+    def sizes_of(self, name):
+        """Directory pages, cell pages, tag pages and frames of the store of a case, as far as its words say them; 0 where they leave one
+        out."""
+        words = self.words_of(name)
+        if not words[0].startswith("--"):
+            return [int(word) for word in words]
+        said = dict(zip(words[::2], words[1::2]))
+        return [int(said.get(f"--{word}", 0)) for word in ("directory", "cells", "tags", "frames")]
+
     def lines_of(self, name):
         """The lines of a case, and those that it has to print."""
         return (self.folder / f"{name}.{self.kind}").read_bytes().split(b"\n")[:-1], self.expected(name).split(b"\n")[:-1]
@@ -59,9 +68,9 @@ class Cases:
     def expected(self, name):
         return (self.folder / f"{name}.expected").read_bytes()
 
-    def fault(self, program, name):
-        """What is wrong with what a case prints; None where nothing is."""
-        file, words = self.folder / f"{name}.{self.kind}", self.words_of(name)
+    def fault(self, program, name, more=()):
+        """What is wrong with what a case prints, with these words more; None where nothing is."""
+        file, words = self.folder / f"{name}.{self.kind}", [*self.words_of(name), *more]
         expected = self.expected(name)
         replay = f"{name}: {' '.join([program, *self.subcommand, *words])} < {file}"
         try:
@@ -78,14 +87,14 @@ class Cases:
         line, wanted, printed = differs
         return f"{replay}\n    line {line}: wanted {shown(wanted)}, printed {shown(printed)}; exit status {ran.returncode}"
 
-    def run(self, program, names=()):
-        """Runs these cases, or all, and says how many print what they should; whether all do."""
+    def run(self, program, names=(), more=()):
+        """Runs these cases, or all, with these words more, and says how many print what they should; whether all do."""
         names = names or self.names()
         with ThreadPoolExecutor(os.cpu_count()) as pool:
-            faults = [fault for fault in pool.map(lambda name: self.fault(program, name), names) if fault]
+            faults = [fault for fault in pool.map(lambda name: self.fault(program, name, more), names) if fault]
         print("".join(f"{fault}\n" for fault in faults), end="")
         right = f"{len(names) - len(faults)} of {len(names)} files of {self.folder.relative_to(TOP)}"
-        print(f"{right} print what they should ({os.path.basename(program)})")
+        print(f"{right} print what they should ({' '.join([os.path.basename(program), *more])})")
         return not faults
 
 

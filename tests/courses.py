@@ -38,6 +38,7 @@ WANTED = {
     "ClientBusy": 240, "UnknownClient": 66, "Migrated": 72, "AnsweredGrown": 72, "OpenedGrown": 280, "BadTags": 72,
     "OddTags": 23, "HasTags": 48, "MigrationNotQuiet": 25, "MigrationOfNone": 7, "CutOffAsItWas": 7,
     "MigrationFailedInTags": 5, "MigrationFailedInForce": 2,
+    "PoolFull": 3000,
 }  # fmt: skip
 
 
@@ -59,7 +60,7 @@ FEW_GROUPS = Shape(180, 0, 9, 6, 2, 0, 0, 1, 50)
 ABORTING = Shape(200, 0, 24, 24, 8, 8, 3, 5, 50)
 
 # Directory pages, cell pages and tag pages.
-USUAL, TAGGED, SMALL, LARGE = (2, 3, 0), (2, 3, 1), (1, 2, 0), (3, 4, 2)
+USUAL, TAGGED, SMALL, LARGE = (2, 3, 0), (2, 3, 1), (1, 2, 0), (7, 4, 2)
 
 # Lines that are no command. One may end a course.
 FAULTS = [b"", b"begin ", b"send 1.1 0", b"send 1.1 0 +1 x", b"recv 1", b"step 1.1  1", b"crash", b"crash 1 new", b"restart -1",
@@ -76,10 +77,16 @@ def shape_of(seed):
     return (NEARLY_EMPTY, FEW_GROUPS, ABORTING)[seed % 3]
 
 
+# In how many frames the large store is opened, which has thirteen pages behind the superblock; and the others, which have eight at
+# most. 0 stands for the usual number, which is enough.
+LARGE_FRAMES, FRAMES = (8, 8, 9, 0), (0, 8)
+
+
 def sizes_of(seed):
-    if seed % 33 < 2:
-        return USUAL
-    return {1: TAGGED, 3: SMALL, 5: LARGE}.get(seed % 7, USUAL)
+    """Directory pages, cell pages, tag pages and frames of the store of a seed."""
+    pages = USUAL if seed % 33 < 2 else {1: TAGGED, 3: SMALL, 5: LARGE}.get(seed % 7, USUAL)
+    frames = LARGE_FRAMES if pages == LARGE else FRAMES
+    return *pages, frames[seed // 7 % len(frames)]
 
 
 class Drawing:
@@ -89,14 +96,18 @@ class Drawing:
 
     def __init__(self, seed, met, door=Script):
         self.random = random.Random(seed)
-        self.shape, self.sizes = shape_of(seed), sizes_of(seed)
+        self.shape, self.sizes = shape_of(seed), self.sizes_of(seed)
         self.door = door(*self.sizes, met=met)
         self.store = self.door.store
         self.lines = []
-        self.may_fail = self.is_first_of(3)
+        # which call meets a failure is told only where the program does not choose which pages it reads and writes out
+        self.may_fail = self.is_first_of(3) and not self.store.lacks_frames()
         self.may_check = seed % 5 < 2  # checkpoints are drawn
         self.may_grow = seed % 5 == 3 and seed % 33 > 2  # migrations are drawn
         self.stops_left = 0  # so many restarts are to be stopped before the one that is not
+
+    def sizes_of(self, seed):
+        return sizes_of(seed)
 
     def is_first_of(self, count):
         return self.random.randrange(count) == 0
@@ -350,7 +361,8 @@ class Courses(drawn.Door):
     name, crate, subcommand, courses, wanted = "script", "rqm", ["run"], 1000, WANTED
 
     def words(self, sizes):
-        return ["--directory", str(sizes[0]), "--cells", str(sizes[1]), *(["--tags", str(sizes[2])] if sizes[2] else [])]
+        words = zip(("--directory", "--cells", "--tags", "--frames"), sizes)
+        return [word for name, size in words if size for word in (name, str(size))]
 
     def draw(self, seed, met):
         drawing = Drawing(seed, met)

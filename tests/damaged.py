@@ -868,7 +868,8 @@ def fault(program, name, pages, log, wanted):
 
 
 def odd_restart(program, at, pages, before, end, added):
-    """What is wrong with the files that a restart leaves; None where nothing is. It writes no page."""
+    """What is wrong with the files that a restart leaves; None where nothing is. It writes no page, as there is
+    a frame for each."""
     with tempfile.TemporaryDirectory() as top:
         folder = pathlib.Path(top)
         (folder / "pages").write_bytes(pages)

@@ -27,11 +27,12 @@ class Door:
     name, crate, subcommand, courses, wanted = "script", "rqm", [], 1000, {}
 
     def words(self, sizes):
-        """The words behind those, for a store of so many directory pages, cell pages and tag pages."""
+        """The words behind those, for a store of so many directory pages, cell pages and tag pages, in so many frames."""
         raise NotImplementedError
 
     def draw(self, seed, met):
-        """The sizes (directory pages, cell pages, tag pages) of the store of a seed, its lines, and what they print by the reference."""
+        """The sizes of the store of a seed (directory pages, cell pages, tag pages, and frames, 0 for enough), its lines, and what they
+        print by the reference."""
         raise NotImplementedError
 
     def without(self, lines, at, end):
@@ -138,8 +139,7 @@ def agrees(door):
         lines, expected = door.cases.lines_of(name)
         if door.unknown in lines:
             continue
-        sizes = [int(word) for word in door.cases.words_of(name) if word.isdigit()]
-        if door.replay(lines, sizes, ())[0] != expected:
+        if door.replay(lines, door.cases.sizes_of(name), ())[0] != expected:
             print(f"the reference does not print what stands beside {name}")
             is_right = False
     return is_right

@@ -192,13 +192,13 @@ class Lists:
     def where_it_fails(self, name, lines, place, call, told):
         """What they print where it is this device call of the call at the place."""
         if self.door is SCRIPTS:
-            script = Script(*(int(word) for word in self.door.words_of(name) if word.isdigit()))
+            script = Script(*self.door.sizes_of(name))
             for at, line in enumerate(lines):
                 if at == place:
                     script.store.devices.fail(call)
                 script.run(line, told[at + 1] if at + 1 < len(told) else b"")
             return b"\n".join(script.printed).split(b"\n")
-        world = World(*map(int, self.door.words_of(name)))
+        world = World(*self.door.sizes_of(name))
         for at, line in enumerate(lines):
             if at == place and line.startswith(b"crash"):
                 world.store.failed = True

@@ -468,10 +468,11 @@ UNDOINGS = {"append": "SendUndone", "take": "TakeUndone", "close": "CloseUndone"
 
 
 class Store:
-    """A store of so many directory, cell and tag pages, formatted and not open yet. What is worth counting is added to `met`."""
+    """A store of so many directory, cell and tag pages, formatted and not open yet. It is opened in so many frames, where 0 means
+    enough. What is worth counting is added to `met`."""
 
-    def __init__(self, directory, cells, tags=0, met=None):
-        self.directory, self.cells, self.tags = directory, cells, tags
+    def __init__(self, directory, cells, tags=0, frames=0, met=None):
+        self.directory, self.cells, self.tags, self.frames = directory, cells, tags, frames
         self.senders, self.room, self.clients = directory * SLOTS, cells * SLOTS, tags * SLOTS
         self.devices = Devices(directory + cells, tags)
         self.chains = Chains(directory, cells)
@@ -676,6 +677,24 @@ class Store:
         """The pages that operations under way have latched."""
         return set().union(*(work.pages for work in self.works()))
 
+    def lacks_frames(self):
+        """Whether there are fewer frames than pages behind the superblock. The program then chooses which of them it writes out."""
+        return 0 < self.frames < len(self.devices.pages) - 1
+
+    def take_frames(self, pages):
+        """Refused where these pages, those that are latched and those whose last change is not forced are more than the frames."""
+        forced = self.devices.forced
+        staying = {number for number, page in enumerate(self.devices.pages) if page.lsn > forced}
+        if self.lacks_frames() and len(staying.union(pages, self.latched())) > self.frames:
+            raise Refused("PoolFull")
+
+    def has_gone_out(self, number):
+        """Notes that a page, if its last change is forced, was written out by the program's own choice."""
+        page = self.devices.pages[number] if number < len(self.devices.pages) else None
+        if self.lacks_frames() and page is not None and page.changed and page.lsn <= self.devices.forced:
+            page.images.append(page.lsn)
+            page.changed = False
+
     def others(self, row):
         return (other for other in self.rows.values() if other is not row)
 
@@ -733,9 +752,10 @@ class Store:
         cell = self.chains.lowest_free(latched)
         if cell is None:
             self.refuse_latched("SendCells")
+        pages = self.chains.reach("append", sender, cell)
+        self.take_frames(pages)
         self.met["HigherCell"] += cell != self.chains.lowest_free()
         row.sending.add(sender)
-        pages = self.chains.reach("append", sender, cell)
         return self.begin_work(row, Deed("append", sender, tag, body, cell), None, cell, pages)
 
     def refuse_latched(self, kind):
@@ -749,9 +769,11 @@ class Store:
         self.sending_end(row, sender)
         if self.chains.home(sender) in self.latched():
             self.refuse_latched("CloseDirectory")
+        pages = self.chains.reach("close", sender, None)
+        self.take_frames(pages)
         self.met["Close" if self.chains.of[sender] else "CloseEmpty"] += 1
         row.sending.add(sender)
-        return self.begin_work(row, Deed("close", sender), None, None, self.chains.reach("close", sender, None))
+        return self.begin_work(row, Deed("close", sender), None, None, pages)
 
     def start_mark(self, txn, client, tag):
         row = self.ready(txn)
@@ -761,10 +783,12 @@ class Store:
             raise Refused("ClientBusy")
         if self.chains.client_page(client) in self.latched():
             self.refuse_latched("MarkPage")
+        pages = self.chains.reach("mark", client, None)
+        self.take_frames(pages)
         self.met["MarkedAgain"] += client in row.marking
         row.marking.add(client)
         deed = Deed("mark", client, tag, previous=self.chains.marked(client)[1])
-        return self.begin_work(row, deed, None, None, self.chains.reach("mark", client, None))
+        return self.begin_work(row, deed, None, None, pages)
 
     def take_latched(self, sender):
         """The kind of the latched page that a receive from this sender needs; None where none is."""
@@ -805,10 +829,11 @@ class Store:
         return self.start_take(row, sender)
 
     def start_take(self, row, sender):
+        pages = self.chains.reach("take", sender, None)
+        self.take_frames(pages)
         tag, body = self.sends[sender][self.takes[sender] + self.taken(sender)]
         if sender not in row.receiving:
             row.receiving.append(sender)
-        pages = self.chains.reach("take", sender, None)
         return self.begin_work(row, Deed("take", sender, tag, body), None, None, pages)
 
     def work_of(self, sub):
@@ -870,8 +895,10 @@ class Store:
                 self.refuse_latched("UnmarkPage")
         else:
             cell = self.cell_of_inverse(kind, deed)
+        pages = self.chains.reach(kind, deed.sender, cell)
+        self.take_frames(pages)
         self.met[UNDOINGS[deed.kind]] += 1
-        return self.begin_work(row, deed, lsn, cell, self.chains.reach(kind, deed.sender, cell))
+        return self.begin_work(row, deed, lsn, cell, pages)
 
     def cell_of_inverse(self, kind, deed):
         """The cell that the inverse of what was done at a chain needs; it is refused where a page of it is latched."""

@@ -72,11 +72,12 @@ def shown(txn):
 
 
 class Script:
-    """A script over a store of so many directory, cell and tag pages, from its opening on. `printed` is a line for each of its lines so
-    far, behind that of the opening; `status` is its exit status once it has ended. `met` is counted as by a store."""
+    """A script over a store of so many directory, cell and tag pages, in so many frames, from its opening on. `printed` is a line for
+    each of its lines so far, behind that of the opening; `status` is its exit status once it has ended. `met` is counted as by a
+    store."""
 
-    def __init__(self, directory, cells, tags=0, met=None):
-        self.store = Store(directory, cells, tags, met)
+    def __init__(self, directory, cells, tags=0, frames=0, met=None):
+        self.store = Store(directory, cells, tags, frames, met)
         self.met = self.store.met
         self.store.restart()
         self.numbers = {}  # the LSN of each commit of this incarnation, by transaction
@@ -85,7 +86,8 @@ class Script:
         self.lines = 0
 
     def run(self, line, told=b""):
-        """Runs a line. A receive of any group takes from the sender of the message told, where it may."""
+        """Runs a line. A receive of any group takes from the sender of the message told, where it may. A page that has no change by what
+        was told went out before, where it may have."""
         self.lines += 1
         try:
             self.printed.append(self.answer(line, told))
@@ -108,6 +110,8 @@ class Script:
             raise Refused("Failed")
         if name == b"recv":
             words.append(int(told.split(b" ")[1]) if told.startswith(b"msg ") else None)
+        if name == b"write" and told == b"nothing":
+            self.store.has_gone_out(*words)
         said = getattr(self, name.decode().replace("-", "_"))(*words)
         return said if isinstance(said, bytes) else said.encode()
 

@@ -587,7 +587,7 @@ def is_busy(connection):
 
 
 def shared_forces(program, _):
-    """Commits that wait together are forced together, whoever serves them. What nobody waits for is forced once a second."""
+    """Commits that wait together are forced together, whoever serves them. What nobody waits for is forced within a second."""
     with failing(SHIM) as (beside, words):
         syncs = beside / "syncs"
         words.update(FAILING=str(beside), SYNCS=str(syncs), MILLIS="200")
@@ -635,6 +635,30 @@ def until_it_rests(syncs):
         if syncs.stat().st_size == before:
             return before
         assert time.monotonic() < until, "the page writer does not rest"
+
+
+def few_frames(program, _):
+    """A server with 8 frames keeps as many pages in memory, and one with a frame for each page all of them. Both serve transactions that
+    change more pages than 8."""
+    pages, taken = 8000, []
+    with store(program, directory=20, cells=pages) as folder:
+        for frames in (8, 67585):
+            with serving(program, folder, "--frames", frames) as server, server.connect() as connection:
+                taken.append(resident(server.process.pid))
+                with connection.transaction() as sending:
+                    for sender in range(0, 300, 15):
+                        sending.send(sender, frames, b"%d" % sender)
+                with connection.transaction() as receiving:
+                    for sender in range(0, 300, 15):
+                        assert receiving.receive_from(sender) == (sender, frames, b"%d" % sender)
+    assert taken[1] - taken[0] > pages * 3000, taken
+    return f"{taken[0] >> 20} and {taken[1] >> 20} MB"
+
+
+def resident(process):
+    """How many bytes of memory a process has."""
+    with open(f"/proc/{process}/status", encoding="utf-8") as status:
+        return int(re.search(r"VmRSS:\s+(\d+)", status.read())[1]) * 1024
 
 
 def failing_force(program, _):
@@ -1475,8 +1499,8 @@ def raises(kind, call):
 
 TESTS = [
     starts, session, closing, marking, faults, bodies, pieces, damaged_streams, lost_connections, ends_inside_a_frame,
-    answers_before_a_fault, parted_clients, unread_answers, shared_forces, failing_force, input_ends, served, silent_reader, slow_clients,
-    few_descriptors, leaves_nothing, short_logs, quiet_checkpoints, failing_checkpoint, missing_threads, worker_without_reports,
+    answers_before_a_fault, parted_clients, unread_answers, shared_forces, few_frames, failing_force, input_ends, served,
+    silent_reader, slow_clients, few_descriptors, leaves_nothing, short_logs, quiet_checkpoints, failing_checkpoint, missing_threads, worker_without_reports,
     refused_connections, many_connections, full_disk, client, lost_answers, batches, sessions,
 ]  # fmt: skip
 

@@ -1,7 +1,8 @@
 #!/usr/bin/env python3
 """Runs scripts of real size by the proved program: as many open transactions as a store may have, a thousand operations in one
-transaction, a log that a restart reads by many windows, one over pages as they were formatted, and stores of as many senders, and of
-as many tag pages, as there may be. What each line has to print is worked out from docs/SCRIPTS.md, as the line is made.
+transaction, a log that a restart reads by many windows, one over pages as they were formatted, stores of as many senders, and of as
+many tag pages, as there may be, and one of 256 pages in the fewest frames. What each line has to print is worked out from
+docs/SCRIPTS.md, as the line is made.
 
     python3 tests/sizes.py [--program PROGRAM]
 """
@@ -14,7 +15,8 @@ from cases import built, first_difference, shown
 MOST_OPEN = 4096  # transactions that have not ended
 MOST_DIRECTORY = 1024  # directory pages
 MOST_TAGS = 1024  # tag pages
-MOST_FRAMES = 67585  # one for each page of the greatest store behind the first
+FEWEST_FRAMES = 8
+MOST_FRAMES = 67585  # as many as the greatest store has pages
 SLOTS = 15  # of a page
 WINDOW = 65536  # bytes that a restart reads at a time
 WRITE_BYTES = 546  # of the record of a slot write
@@ -186,12 +188,27 @@ def long_log():
 
 
 def most_senders():
-    """Each of as many senders as there may be has sent a message, and all are shown, before a restart and behind it."""
-    senders = SLOTS * MOST_DIRECTORY
-    run = Run("the most senders", MOST_DIRECTORY, MOST_DIRECTORY)
+    """Each of as many senders as there may be has sent a message, and all are shown, before a restart and behind it. None of it is forced
+    before its end, so each page that is written to has a frame."""
+    return of_all_senders("the most senders", MOST_DIRECTORY, 2 * MOST_DIRECTORY, None)
+
+
+def fewest_frames():
+    """The same of fewer senders in the fewest frames. What was sent is forced behind each third message, and each page goes out and
+    comes back."""
+    return of_all_senders("many senders in the fewest frames", 128, FEWEST_FRAMES, 3)
+
+
+def of_all_senders(name, pages, frames, forced):
+    """A message of each sender of a store with so many directory pages and as many cell pages, in so many frames. A force comes behind
+    every so many, or behind all."""
+    senders = SLOTS * pages
+    run = Run(name, pages, pages, "--frames", str(frames))
     txn = run.begin()
     for sender in range(senders):
         run.send(txn, sender, sender + 1, f"of{sender}")
+        if forced and sender % forced == forced - 1:
+            run.force()
     run.commit(txn)
     run.force()
     groups = {sender: (1, 0, [f"of{sender}"]) for sender in range(senders)}
@@ -251,7 +268,7 @@ def main():
     chosen = words.parse_args()
     program = built(chosen.program, "rqm")
     wrong = False
-    for run in (most_transactions(), long_transaction(), long_log(), one_message_at_a_time(), most_senders(), most_tags()):
+    for run in (most_transactions(), long_transaction(), long_log(), one_message_at_a_time(), most_senders(), fewest_frames(), most_tags()):
         fault = run.fault(program)
         wrong = wrong or fault is not None
         print(f"{run.name}: {fault or f'{len(run.lines)} lines print what they should'}")

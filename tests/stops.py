@@ -38,7 +38,7 @@ ACKNOWLEDGED, WRITTEN = "acknowledged", "written"
 # How many restarts are stopped one after the other, and what a stop leaves of the records and of the images.
 DEPTH, KEEPS, IMAGES = 3, ("0", str(ALL), "0+20"), (",".join("0" * 16), "-")
 
-# A restart writes no page: of each, one image is left before and behind it.
+# In frames enough a restart writes no page: of each, one image is left before and behind it.
 RESTART_IMAGES = ("-",)
 
 
@@ -47,7 +47,7 @@ class Base:
     the line and the number of the call there. `last` comes behind a way: it asks for the clients that were marked."""
 
     def __init__(self, program, name, more=""):
-        self.name, self.sizes = name, [int(word) for word in Worlds.cases.words_of(name)]
+        self.name, self.sizes = name, Worlds.cases.sizes_of(name)
         self.lines, self.printed = Worlds.cases.lines_of(name)
         if more:
             self.name, self.lines = f"{name}, {more}", with_receipts(self.lines, sum(self.sizes) if more == WRITTEN else 0)

@@ -38,8 +38,8 @@ def call_of(text):
 class World:
     """A store to which anything may happen. `printed` has a line for each happening so far; `met` is counted as by a store."""
 
-    def __init__(self, directory, cells, tags=0, met=None):
-        self.store = Store(directory, cells, tags, met)
+    def __init__(self, directory, cells, tags=0, frames=0, met=None):
+        self.store = Store(directory, cells, tags, frames, met)
         self.met = self.store.met
         self.printed = []
         self.numbers = {}  # transaction and LSN of the commit that a happening answered, by its number from 1

@@ -59,8 +59,10 @@ LENGTH = 160
 
 
 def sizes_of(seed):
-    """Directory pages, cell pages and tag pages of the store of a seed."""
-    return {0: (2, 2, 0), 5: (1, 2, 1), 7: (3, 2, 0), 8: (1, 1, 2)}.get(seed % 9 if seed % 3 else 0, (1, 1, 0))
+    """Directory pages, cell pages, tag pages and frames of the store of a seed. There is a frame for each page: the calls of a device that
+    are made for others no reference counts."""
+    pages = {0: (2, 2, 0), 5: (1, 2, 1), 7: (3, 2, 0), 8: (1, 1, 2)}.get(seed % 9 if seed % 3 else 0, (1, 1, 0))
+    return *pages, (0, 8, 9, 64)[seed // 9 % 4]
 
 
 class Drawing:
@@ -250,6 +252,11 @@ class Calls(courses.Drawing):
         super().__init__(seed, met, World)
         self.happen("restart")
 
+    def sizes_of(self, seed):
+        """There is a frame for each page."""
+        *pages, frames = courses.sizes_of(seed)
+        return *pages, frames and max(frames, sum(pages))
+
     @property
     def ended(self):
         return False
@@ -344,7 +351,7 @@ def failing(lines, n, images):
 def comes_wrong(job):
     """How many device calls a list makes, and the first n whose failure comes to something else; 0 where none does."""
     door, program, name, images = job
-    lines, sizes = door.cases.lines_of(name)[0], [int(word) for word in door.cases.words_of(name)]
+    lines, sizes = door.cases.lines_of(name)[0], door.cases.sizes_of(name)
     for n in itertools.count(1):
         made, world = failing(lines, n, images), World(*sizes)
         told = drawn.run(door, program, made, sizes)
@@ -361,7 +368,9 @@ class Worlds(drawn.Door):
     name, crate, subcommand, courses, wanted = "happenings", "bench", ["happenings"], 1500, WANTED
 
     def words(self, sizes):
-        return [str(size) for size in sizes]
+        """Zeros at the end are left out."""
+        last = max(place for place, size in enumerate(sizes, 1) if size)
+        return [str(size) for size in sizes[:last]]
 
     def draw(self, seed, met):
         drawing = Drawing(seed // 3, met) if seed % 3 == 0 else Calls(seed - seed // 3, met)

@@ -1,0 +1,200 @@
+#!/usr/bin/env python3
+"""Runs stores in fewer frames than pages. Lists of happenings are drawn from seeds, run by the proved program in 8, 9 and 64 frames,
+and compared with the reference. Then each device call of the running store fails in turn, also those that read a page or make way for
+one. A call that is refused as DiskRead has changed nothing: made again, it and all behind it answer as if nothing had failed. One that
+is refused as DiskWrite stops the store, which a crash and a restart open again, as it was in front of that call.
+
+    python3 tests/frames.py [--program PROGRAM] [--first SEED] [--lists N]
+"""
+import argparse
+import multiprocessing
+import os
+import random
+import subprocess
+import sys
+from collections import Counter
+
+from cases import MOST_SECONDS, built, first_difference, shown
+from world_reference import World
+
+FRAMES = (8, 9, 64)
+
+# In so few of them pages make way, and each device call fails in turn.
+FEW = 9
+
+# Directory pages, cell pages and tag pages of the stores: each has more of them than the fewest frames.
+SIZES = ((20, 2, 0), (7, 3, 0), (40, 2, 2))
+
+TRANSACTIONS = 20
+
+# What shows the store behind its last crash.
+LAST = [b"crash 0 -", b"restart", b"content"]
+
+# What has to be met, the usual lists taken together, and how often at least.
+WANTED = {"DiskRead": 2200, "DiskWrite": 3000, "ContentRead": 1900, "StartRead": 290, "StartWrite": 190, "UndoRead": 2, "UndoWrite": 2}
+
+
+class Drawing:
+    """A list that is being drawn, beside the reference. What an operation wrote is forced before the next one begins, so frames for its
+    pages can always be had."""
+
+    def __init__(self, seed):
+        self.random = random.Random(seed)
+        self.sizes = SIZES[seed % len(SIZES)]
+        self.world = World(*self.sizes)
+        self.lines = []
+        self.happen("restart")
+        for _ in range(TRANSACTIONS):
+            self.transaction()
+            if self.random.randrange(3) == 0:
+                self.happen("content")
+
+    def happen(self, *words):
+        line = b" ".join(word if isinstance(word, bytes) else str(word).encode() for word in words)
+        self.lines.append(line)
+        return self.world.happen(line).decode(errors="replace")
+
+    def transaction(self):
+        txn = self.happen("begin").split()[1]
+        for _ in range(self.random.randrange(1, 4)):
+            self.operation(txn)
+        if self.random.randrange(3):
+            self.happen("commit", txn)
+        else:
+            self.abort(txn)
+        self.happen("force")
+
+    def operation(self, txn):
+        sender, kind = self.random.randrange(self.sizes[0] * 15), self.random.randrange(10)
+        holding = [number for number, sends in enumerate(self.world.store.sends) if len(sends) > self.world.store.takes[number]]
+        if kind < 4 and holding:
+            self.carry("start-receive-from", txn, self.random.choice(holding))
+        elif kind == 4 and self.sizes[2]:
+            self.carry("start-mark", txn, self.random.randrange(self.sizes[2] * 15), self.random.randrange(99))
+        elif kind == 5:
+            self.carry("start-close", txn, sender)
+        else:
+            body = bytes(self.random.choices(b"abcdef", k=self.random.randrange(217)))
+            self.carry("start-send", txn, sender, self.random.randrange(99), body)
+
+    def carry(self, *start):
+        """An operation, from its start to its end; whether it began."""
+        said = self.happen(*start)
+        if not said.startswith("started"):
+            return False
+        sub = said.split()[1:]
+        while self.happen("step", *sub) != "ready":
+            pass
+        self.happen("finish", *sub)
+        self.happen("force")
+        return True
+
+    def abort(self, txn):
+        self.happen("start-abort", txn)
+        while self.carry("undo-next", txn):
+            pass
+        self.happen("end-abort", txn)
+
+
+def printed_by(lines, sizes):
+    world = World(*sizes)
+    for line in lines:
+        world.happen(line)
+    return world.printed
+
+
+def told_by(program, lines, sizes, frames):
+    """What the program prints of these happenings in so many frames."""
+    words = [program, "happenings", *map(str, sizes), str(frames)]
+    given = b"".join(line + b"\n" for line in lines)
+    ran = subprocess.run(words, input=given, capture_output=True, timeout=MOST_SECONDS, check=True)
+    return ran.stdout.split(b"\n")[:-1]
+
+
+def differs(told, wanted, what):
+    """Says where the program prints something else; None where it does not."""
+    found = first_difference(told, wanted)
+    return found and f"{what}\n    line {found[0]}: wanted {shown(found[1])}, printed {shown(found[2])}"
+
+
+def kind_of(line, is_read):
+    """What was met: the start of an operation, of an inverse, or a content, that reads or that writes."""
+    name = line.split(b" ")[0]
+    part = "Content" if name == b"content" else "Undo" if name == b"undo-next" else "Start" if name.startswith(b"start-") else "Other"
+    return part + ("Read" if is_read else "Write")
+
+
+class Failing:
+    """A list whose device calls fail in turn."""
+
+    def __init__(self, program, seed, frames):
+        drawing = Drawing(seed)
+        self.program, self.sizes, self.frames = program, drawing.sizes, frames
+        self.lines = drawing.lines
+        self.wanted = printed_by(self.lines + LAST, self.sizes)
+        self.met = Counter()
+        self.goes_on = False  # some call of the list met the last failure
+        self.name = f"seed {seed}, {frames} frames"
+
+    def told(self, lines):
+        return told_by(self.program, lines, self.sizes, self.frames)
+
+    def fault(self):
+        """What is wrong; None where nothing is."""
+        wrong = differs(self.told(self.lines + LAST), self.wanted, self.name)
+        number = 1
+        self.goes_on = self.frames <= FEW
+        while not wrong and self.goes_on:
+            wrong = self.fault_of(number)
+            number += 1
+        return wrong
+
+    def fault_of(self, number):
+        """What is wrong where this device call behind the opening fails. It is the last one where no call of the list meets it."""
+        failing = b"fail %d" % number
+        lines = [self.lines[0], failing] + self.lines[1:]
+        wanted = [self.wanted[0], b"nothing"] + self.wanted[1:]
+        found = first_difference(self.told(lines + LAST), wanted)
+        self.goes_on = found is not None and found[0] <= len(lines)
+        if not self.goes_on:
+            return None
+        at, said = found[0] - 1, found[2]
+        what = f"{self.name}, device call {number}, in {shown(lines[at])}"
+        if said == b"refused 3 DiskRead":
+            self.met.update(["DiskRead", kind_of(lines[at], True)])
+            return differs(self.told(lines[: at + 1] + lines[at:] + LAST), wanted[:at] + [said] + wanted[at:], what)
+        if said != b"refused 15 DiskWrite":
+            return differs([said], [wanted[at]], what)
+        self.met.update(["DiskWrite", kind_of(lines[at], False)])
+        before = printed_by([self.lines[0]] + lines[2:at] + LAST, self.sizes)
+        behind = [b"refused 2 Failed"]
+        lines = lines[: at + 1] + [b"force"] + LAST
+        return differs(self.told(lines), [wanted[0], b"nothing"] + before[1 : at - 1] + [said] + behind + before[at - 1 :], what)
+
+
+def tried(job):
+    failing = Failing(*job)
+    return failing.fault(), failing.met
+
+
+def main():
+    words = argparse.ArgumentParser(description="Runs stores in fewer frames than pages.")
+    words.add_argument("--program", help="a program that was built elsewhere")
+    words.add_argument("--first", type=int, default=0, metavar="SEED", help="the first seed")
+    words.add_argument("--lists", type=int, default=12, metavar="N", help="how many seeds")
+    chosen = words.parse_args()
+    program, seeds = built(chosen.program, "bench"), range(chosen.first, chosen.first + chosen.lists)
+    with multiprocessing.Pool(os.cpu_count()) as pool:
+        came = pool.map(tried, [(program, seed, frames) for seed in seeds for frames in FRAMES], chunksize=1)
+    faults, met = [fault for fault, _ in came if fault], sum((met for _, met in came), Counter())
+    print("".join(f"{fault}\n" for fault in faults), end="")
+    print(f"{len(came) - len(faults)} of {len(came)} runs in few frames go as they should; {dict(sorted(met.items()))}")
+    usual = chosen.first == 0 and chosen.lists == 12
+    lacking = {kind: met[kind] for kind in WANTED if usual and met[kind] < WANTED[kind]}
+    if lacking:
+        print(f"too seldom met: {lacking}")
+    sys.exit(1 if faults or lacking else 0)
+
+
+if __name__ == "__main__":
+    main()
