@@ -2,7 +2,8 @@
 """Runs stores in fewer frames than pages. Lists of happenings are drawn from seeds, run by the proved program in 8, 9 and 64 frames,
 and compared with the reference. Then each device call of the running store fails in turn, also those that read a page or make way for
 one. A call that is refused as DiskRead has changed nothing: made again, it and all behind it answer as if nothing had failed. One that
-is refused as DiskWrite stops the store, which a crash and a restart open again, as it was in front of that call.
+is refused as DiskWrite stops the store, which a crash and a restart open again, as it was in front of that call. A crash that leaves
+old images of all pages has the restart write many out: each of its device calls fails in turn, and the machine stops at each.
 
     python3 tests/frames.py [--program PROGRAM] [--first SEED] [--lists N]
 """
@@ -30,8 +31,14 @@ TRANSACTIONS = 20
 # What shows the store behind its last crash.
 LAST = [b"crash 0 -", b"restart", b"content"]
 
+# A crash that leaves what is forced, and of each page the synced image.
+OLD = b"crash 0 " + b",".join([b"0"] * 64)
+
 # What has to be met, the usual lists taken together, and how often at least.
-WANTED = {"DiskRead": 2200, "DiskWrite": 3000, "ContentRead": 1900, "StartRead": 290, "StartWrite": 190, "UndoRead": 2, "UndoWrite": 2}
+WANTED = {
+    "DiskRead": 2200, "DiskWrite": 3000, "ContentRead": 1900, "StartRead": 290, "StartWrite": 190, "UndoRead": 2, "UndoWrite": 2,
+    "OpeningRead": 500, "OpeningWrite": 200, "OpeningStopped": 1400,
+}  # fmt: skip
 
 
 class Drawing:
@@ -147,7 +154,34 @@ class Failing:
         while not wrong and self.goes_on:
             wrong = self.fault_of(number)
             number += 1
-        return wrong
+        return wrong or (self.fault_of_opening() if self.frames <= FEW else None)
+
+    def fault_of_opening(self):
+        """What is wrong where a device call of the restart behind the list fails, or the machine stops there; None where nothing is."""
+        for name, images in (("fail", b""), ("stop", b"-"), ("stop", b",".join([b"0"] * 64))):
+            number, wrong, self.goes_on = 1, None, True
+            while self.goes_on:
+                wrong = self.fault_at(name, images, number)
+                if wrong:
+                    return wrong
+                number += 1
+        return None
+
+    def fault_at(self, name, images, number):
+        """The same of one device call. Behind the last one the store opens at once."""
+        spoiled = [b"fail %d" % number, b"restart"] if name == "fail" else [b"restart-stop %d 0 " % number + images]
+        told = self.told(self.lines + [OLD] + spoiled + [b"fail 0", b"restart", b"content"])
+        before, _, opened, content = told[-4:]
+        self.goes_on = not before.startswith(b"restarted")
+        wanted = (b"running" if not self.goes_on else b"restarted", self.wanted[-1])
+        what = f"{self.name}, {name} {number} of the restart"
+        if before == b"not-opened 15 DiskWrite" or before.startswith(b"crashed"):
+            self.met["OpeningStopped" if name == "stop" else "OpeningWrite"] += 1
+        elif before == b"not-opened 3 DiskRead":
+            self.met["OpeningRead"] += 1
+        elif self.goes_on:
+            return differs([before], [b"restarted"], what)
+        return differs([opened.split(b" ")[0], content], list(wanted), what)
 
     def fault_of(self, number):
         """What is wrong where this device call behind the opening fails. It is the last one where no call of the list meets it."""
