@@ -1,6 +1,7 @@
 -- What a restart has checked, what it leaves of a log, and why it was refused.
-use Rattle.std.proofs.Common.{◌≡◌, ◌⊎◌, ⊎_elim, ℕ, ◌+◌, Bool, false, true, List, [], ◌∷◌, ◌++◌, length, take, drop, refl, sym, ap, ◌∙◌, ◌≤◌, subst, inl, inr, arith, append_assoc, length-append}
+use Rattle.std.proofs.Common.{◌≡◌, ◌⊎◌, ⊎_elim, ℕ, zero, suc, ◌+◌, ◌%◌, ◌^◌, Bool, false, true, List, [], ◌∷◌, ◌++◌, length, take, drop, refl, sym, ap, ◌∙◌, ◌≤◌, subst, inl, inr, arith, append_assoc, length-append}
 use Rattle.std.proofs.Math.Seq.{drop-append_seam}
+use Rattle.std.proofs.lemmas.Bool.{true≢false}
 use Rattle.std.proofs.lemmas.List.{append-nil, length-take-le, take-append-drop}
 use Rattle.rq_restart.specs.Once.{OneLogEach}
 use Rattle.rq_bytes.specs.Number.{number}
@@ -23,6 +24,7 @@ use Rattle.rq_log.proofs.Runs.{ends_all, spelled-append}
 use Rattle.rq_page.specs.Formatted.{IsHeaderOf}
 use Rattle.rq_page.specs.Pages.{lsn_of}
 use Rattle.rq_page.specs.Sizes.{Sizes}
+use Rattle.rq_pool.specs.Pooled.{is_changed}
 use Rattle.rq_pool.specs.Reading.{ArePages, IsSoundPage}
 use Rattle.rq_views.specs.WorkedItems.{t1}
 use Rattle.rq_store.specs.Fitting.{image_in}
@@ -38,7 +40,7 @@ use Rattle.rq_core.specs.Devices.{mem_log, mem_pages}
 use Rattle.rq_core.proofs.Arms.{refused_stays}
 use Rattle.rq_core.proofs.Judged.{refused_over}
 use Rattle.rq_cases.specs.Opened.{AreNewPages, IsNewLog}
-use Rattle.rq_cases.specs.Openings.{BeginningsAreJudged, Checked, ChecksAreJudged, RefusalsAreJudged, log_next}
+use Rattle.rq_cases.specs.Openings.{BeginningsAreJudged, Checked, ChecksAreJudged, FewFramesAreJudged, RefusalsAreJudged, log_next}
 use Rattle.rq_cases.specs.Reading.{no_cells}
 use Rattle.rq_cases.specs.Restarting.{read_pages}
 use Rattle.rq_cases.specs.Run.{forced, log_1, log_4, log_5}
@@ -152,6 +154,30 @@ refusals = record {
   may_not_be_shut = λ s. s;
   damaged_though_left = λ d s. s tt;
 }
+
+-- a count of failures is never its own next
+never_next : (n : ℕ) → n ≡ (n + 1) % 2 ^ 64 → ⊥
+never_next n e = omega (arith, e)
+
+pub few_frames : FewFramesAreJudged
+few_frames = record {
+  other_count = λ pages log count s report other o. other o.frames;
+  write_without_failure = λ pages new_pages log new_log same kept s. ⊎_elim
+      (λ p. p.0)
+      (⊎_elim (λ l. never_next (mem_log.faults log) (sym kept ∙ l.5.counted)) (λ w. never_next (mem_pages.faults pages) (sym same ∙ w.failed))) s;
+  written_and_full = λ pages new_pages log new_log other s. ⊎_elim (λ only. other only.same) (λ w. (let e = w.is in cc e)) s.refuses.pages_read;
+  written_out = λ images. record {
+    image = λ page. refl;
+    changed = λ page e. written page e;
+    framed = λ page f. absurd (let none = f.within in omega (arith, none));
+  };
+  written_in_a_frame = λ frames last now page f was is o. true≢false (sym was ∙ sym (o.framed page f) ∙ is);
+  changed_for_nothing = λ frames last now page was is o. true≢false (sym (o.changed page is) ∙ was);
+  another_image = λ frames last now page other o. other (o.image page);
+} where
+  written : (page : ℕ) → is_changed (false ∷ []) page ≡ true → is_changed (true ∷ []) page ≡ true
+  written zero e = refl
+  written (suc n) e = absurd (true≢false (sym e))
 
 next_spelled : AreSpelled log_next
 next_spelled = ((omega arith, omega arith), records_spelled)

@@ -9,7 +9,7 @@ use Rattle.rq_cases.specs.Crashes.{RunsAreJudged}
 use Rattle.rq_cases.specs.Formatting.{FormatsAreJudged}
 use Rattle.rq_cases.specs.KeptUp.{StartsAreJudged}
 use Rattle.rq_cases.specs.RollingBack.{MendsAreJudged}
-use Rattle.rq_cases.specs.Openings.{BeginningsAreJudged, ChecksAreJudged, RefusalsAreJudged}
+use Rattle.rq_cases.specs.Openings.{BeginningsAreJudged, ChecksAreJudged, FewFramesAreJudged, RefusalsAreJudged}
 use Rattle.rq_cases.specs.Replies.{ReceiptsAreJudged}
 use Rattle.rq_cases.specs.Restarting.{RestartsAreJudged}
 use Rattle.rq_cases.specs.Sound.{RunIsSound}
@@ -48,6 +48,8 @@ pub record Cases : Type 0 where
   pub rollbacks_are_judged : MendsAreJudged
   -- Refusals of a restart without their reason.
   pub refusals_are_judged : RefusalsAreJudged
+  -- Stores that were opened in few frames, and pages that were written out for that; and those that were not.
+  pub few_frames_are_judged : FewFramesAreJudged
   -- What a restart does not add to a log, at each moment, and what does not stay of a store that it doesn't open.
   pub beginnings_are_judged : BeginningsAreJudged
   -- A log at its bound: a commit, a send and a restart that just fit, and those that are refused.

@@ -20,7 +20,7 @@ use Rattle.rq_engine.specs.Tested.{group_closed}
 use Rattle.rq_engine.specs.declared.event.Event.TheVariants as event
 use Rattle.rq_engine.specs.declared.event.Reply.{Reply}
 use Rattle.rq_engine.specs.declared.event.Reply.TheVariants as reply
-use Rattle.rq_core.specs.Devices.{mem_log, mem_pages}
+use Rattle.rq_core.specs.Devices.{mem_pages}
 use Rattle.rq_cases.specs.Applied.{Makes}
 
 -- whatever store, transaction and operation

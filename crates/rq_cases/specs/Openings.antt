@@ -1,5 +1,5 @@
 -- What a restart has checked, what it leaves of a log, and why and where it was refused: over the worked run.
-use Rattle.std.specs.Prelude.{◌≡◌, ◌≢◌, ℕ, ◌^◌, ◌<◌, List, None, ◌∷◌, ◌++◌, length, take, false, true}
+use Rattle.std.specs.Prelude.{◌≡◌, ◌≢◌, ℕ, ◌+◌, ◌^◌, ◌<◌, List, None, [], ◌∷◌, min, ◌++◌, length, take, false, true}
 use Rattle.rq_model.specs.declared.record.Record.{Record}
 use Rattle.rq_model.specs.declared.record.Record.TheVariants.{Commit, Restart}
 use Rattle.rq_model.specs.declared.refusal.Refusal.{Refusal}
@@ -13,10 +13,16 @@ use Rattle.rq_record.specs.Spelling.{spelling}
 use Rattle.rq_log.specs.Logged.{Logged}
 use Rattle.rq_log.specs.Spelled.{spelled}
 use Rattle.rq_views.specs.WorkedItems.{t1, t2}
+use Rattle.rq_page.specs.Sizes.{page_count}
+use Rattle.rq_pool.specs.Held.{Held, IsFramed}
+use Rattle.rq_pool.specs.Pooled.{is_changed}
 use Rattle.rq_store.specs.Fitting.{image_in}
 use Rattle.rq_engine.specs.Answers.{Refuses}
+use Rattle.rq_engine.specs.Opened.{OpenStore}
 use Rattle.rq_restart.specs.Refused.{BeginsNot, MayBeShut}
-use Rattle.rq_restart.specs.Repeating.{Paged}
+use Rattle.rq_restart.specs.Opens.{Opens}
+use Rattle.rq_restart.specs.Repeating.{AreAsRepeated, Paged}
+use Rattle.rq_restart.specs.declared.restart.Report.{Report}
 use Rattle.rq_restart.specs.Restarting.{BeginsAtMost, IsBegun, IsReady, IsRefusedFor, LogStops, WasChecked}
 use Rattle.rq_restart.specs.Underway.{IsLeftOrGoesOn, OfStores}
 use Rattle.rq_core.specs.Devices.{mem_log, mem_pages}
@@ -73,6 +79,25 @@ pub record RefusalsAreJudged : Type 0 where
   pub begins_not_of_five : BeginsNot why.LogFull 5 1 0 0 (Unit {0}) → ⊥
   pub may_not_be_shut : MayBeShut (Unit {0}) sizes log_4 why.Unfinished 0 0 → ⊥
   pub damaged_though_left : (d : Damage) → MayBeShut (Unit {0}) sizes log_5 (why.Damaged d) 0 0 → ⊥
+
+-- pages that were opened, of which some were written out
+pub record FewFramesAreJudged : Type 0 where
+  pub other_count : (pages : MemPages) (log : MemLog) (count : ℕ) (s : OpenStore MemPages MemLog) (report : Report)
+      → length s.frames ≢ min (page_count s.state.sizes) (count + 1) → Opens mem_pages mem_log pages log count s report → ⊥
+  -- refused for a write, where no device failed; and for a full log, where a page was written
+  pub write_without_failure : (pages new_pages : MemPages) (log new_log : MemLog)
+      → mem_pages.faults new_pages ≡ mem_pages.faults pages → mem_log.faults new_log ≡ mem_log.faults log
+      → IsRefused pages log why.DiskWrite new_pages new_log → ⊥
+  pub written_and_full : (pages new_pages : MemPages) (log new_log : MemLog)
+      → mem_pages.seen new_pages ≢ mem_pages.seen pages → StaysShut pages log why.LogFull new_pages new_log → ⊥
+  -- a page that stands in no frame was written out, or one that does was; one counts as changed for nothing; an image is another
+  pub written_out : (images : Images) → AreAsRepeated [] (record { image = images; changed = true ∷ [] }) (record { image = images; changed = false ∷ [] })
+  pub written_in_a_frame : (frames : List Held) (last now : Paged) (page : ℕ) → IsFramed frames page
+      → is_changed last.changed page ≡ true → is_changed now.changed page ≡ false → AreAsRepeated frames last now → ⊥
+  pub changed_for_nothing : (frames : List Held) (last now : Paged) (page : ℕ)
+      → is_changed last.changed page ≡ false → is_changed now.changed page ≡ true → AreAsRepeated frames last now → ⊥
+  pub another_image : (frames : List Held) (last now : Paged) (page : ℕ)
+      → now.image page ≢ last.image page → AreAsRepeated frames last now → ⊥
 
 -- a log of these records, all of them forced, over a device
 abbrev pub logged : List Record → MemLog → Logged MemLog

@@ -8,7 +8,7 @@ use Rattle.rq_cases.proofs.Crashes.{runs}
 use Rattle.rq_cases.proofs.Formatting.{formats}
 use Rattle.rq_cases.proofs.KeptUp.{starts}
 use Rattle.rq_cases.proofs.RollingBack.{rolls_back}
-use Rattle.rq_cases.proofs.Openings.{beginnings, checks, refusals}
+use Rattle.rq_cases.proofs.Openings.{beginnings, checks, few_frames, refusals}
 use Rattle.rq_cases.proofs.Replies.{receipts}
 use Rattle.rq_cases.proofs.Restarting.{restarts}
 use Rattle.rq_cases.proofs.Sound.{run}
@@ -32,6 +32,7 @@ returns c = record {
   checks_are_judged = checks;
   rollbacks_are_judged = rolls_back;
   refusals_are_judged = refusals;
+  few_frames_are_judged = few_frames;
   beginnings_are_judged = beginnings;
   bounds_are_judged = bounds;
   runs_are_judged = runs;
