@@ -645,6 +645,7 @@ def few_frames(program, _):
         for frames in (8, 67585):
             with serving(program, folder, "--frames", frames) as server, server.connect() as connection:
                 taken.append(resident(server.process.pid))
+                connection.patience = LONGEST  # a machine that is held up may force late
                 with connection.transaction() as sending:
                     for sender in range(0, 300, 15):
                         sending.send(sender, frames, b"%d" % sender)
