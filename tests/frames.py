@@ -2,12 +2,14 @@
 """Runs stores in fewer frames than pages. Lists of happenings are drawn from seeds, run by the proved program in 8, 9 and 64 frames,
 and compared with the reference. Then each device call of the running store fails in turn, also those that read a page or make way for
 one. A call that is refused as DiskRead has changed nothing: made again, it and all behind it answer as if nothing had failed. One that
-is refused as DiskWrite stops the store, which a crash and a restart open again, as it was in front of that call. A crash that leaves
-old images of all pages has the restart write many out: each of its device calls fails in turn, and the machine stops at each.
+is refused as DiskWrite stops the store, which a crash and a restart open again, as it was in front of that call. So they do where the
+machine stops at a device call of a start, of an inverse or of a content. A crash that leaves old images of all pages has the restart
+write many out: each of its device calls fails in turn, and the machine stops at each.
 
     python3 tests/frames.py [--program PROGRAM] [--first SEED] [--lists N]
 """
 import argparse
+import itertools
 import multiprocessing
 import os
 import random
@@ -31,13 +33,16 @@ TRANSACTIONS = 20
 # What shows the store behind its last crash.
 LAST = [b"crash 0 -", b"restart", b"content"]
 
+# Of each page the newest image is left, or the synced one.
+NEWEST, SYNCED = b"-", b",".join([b"0"] * 64)
+
 # A crash that leaves what is forced, and of each page the synced image.
-OLD = b"crash 0 " + b",".join([b"0"] * 64)
+OLD = b"crash 0 " + SYNCED
 
 # What has to be met, the usual lists taken together, and how often at least.
 WANTED = {
     "DiskRead": 2200, "DiskWrite": 3000, "ContentRead": 1900, "StartRead": 290, "StartWrite": 190, "UndoRead": 2, "UndoWrite": 2,
-    "OpeningRead": 500, "OpeningWrite": 200, "OpeningStopped": 1400,
+    "OpeningRead": 500, "OpeningWrite": 200, "OpeningStopped": 1400, "Stopped": 5000,
 }  # fmt: skip
 
 
@@ -154,11 +159,32 @@ class Failing:
         while not wrong and self.goes_on:
             wrong = self.fault_of(number)
             number += 1
-        return wrong or (self.fault_of_opening() if self.frames <= FEW else None)
+        return wrong or (self.frames <= FEW and (self.fault_of_stops() or self.fault_of_opening())) or None
+
+    def fault_of_stops(self):
+        """What is wrong where the machine stops at a device call that makes pages be read, or make way; None where nothing is."""
+        for at, line in enumerate(self.lines):
+            if line.startswith((b"start-", b"undo-next", b"content")):
+                wanted = printed_by(self.lines[:at] + LAST, self.sizes)[-1]
+                wrong = self.fault_of_stop(at, NEWEST, wanted) or self.fault_of_stop(at, SYNCED, wanted)
+                if wrong:
+                    return wrong
+        return None
+
+    def fault_of_stop(self, at, images, wanted):
+        for number in itertools.count(1):
+            stopping = b"stop-in %d 0 %s " % (number, images) + self.lines[at]
+            told = self.told(self.lines[:at] + [stopping, b"restart", b"content"])
+            if not told[at].startswith(b"crashed"):
+                return None
+            self.met["Stopped"] += 1
+            wrong = differs(told[-1:], [wanted], f"{self.name}, {shown(stopping)}")
+            if wrong:
+                return wrong
 
     def fault_of_opening(self):
         """What is wrong where a device call of the restart behind the list fails, or the machine stops there; None where nothing is."""
-        for name, images in (("fail", b""), ("stop", b"-"), ("stop", b",".join([b"0"] * 64))):
+        for name, images in (("fail", b""), ("stop", NEWEST), ("stop", SYNCED)):
             number, wrong, self.goes_on = 1, None, True
             while self.goes_on:
                 wrong = self.fault_at(name, images, number)
