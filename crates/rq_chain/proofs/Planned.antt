@@ -1,7 +1,7 @@
 -- Plans of operations, as the level answers them.
 use Rattle.std.specs.Bool.{beq}
 use Rattle.std.proofs.lemmas.Bool.{true≢false}
-use Rattle.std.proofs.Common.{◌≡◌, ℕ, zero, suc, arith, ◌+◌, ◌<◌, ◌≤◌, ◌^◌, Bool, true, false, not, List, [], ◌∷◌, reverse, Option, Some, Result, Ok, Err, IfOk, IfErr, refl, sym, ap, ◌∙◌, subst}
+use Rattle.std.proofs.Common.{◌≡◌, ℕ, zero, suc, arith, ◌+◌, ◌<◌, ◌≤◌, ◌^◌, Bool, true, false, not, List, [], ◌∷◌, reverse, Option, Some, Result, Ok, Err, IfErr, OnOk, refl, sym, ap, ◌∙◌, subst}
 use Rattle.rq_model.specs.declared.record.Deed.TheVariants.{Append, UnlinkHead, Close}
 use Rattle.rq_model.specs.declared.refusal.Refusal.{Refusal}
 use Rattle.rq_model.specs.Deeds.{deed_in, spelled_deed}
@@ -15,7 +15,7 @@ use Rattle.rq_views.specs.Items.{layout_of}
 use Rattle.rq_level.specs.LevelState.{LevelState, IsLowest, reserved_at}
 use Rattle.rq_level.specs.Given.{GivenHolds}
 use Rattle.rq_level.specs.ChainPlans.{Beside, IsSent, CanReceive, IsReceived, CanMark, IsMarked, CanUnlinkTail, IsTailUnlinked, IsReturned, IsReopened, IsInverse, RefusesOther, Undoes}
-use Rattle.rq_level.specs.Writes.{writes_of, AreSlotWrites}
+use Rattle.rq_level.specs.Writes.{writes_of, with_plan, AreSlotWrites}
 use Rattle.rq_level.specs.declared.slots.Given.{Given}
 use Rattle.rq_level.specs.declared.writes.Plan.{Plan}
 use Rattle.rq_level.specs.declared.writes.Gist.TheVariants as gists
@@ -154,7 +154,7 @@ no_tail z given s n at d at_is h none can =
     let f : d ≡ can.directory = cc in
     none can.cell (subst (λ (a : ℕ). GivenHolds z given a (Used can.cell)) (sym (at_is ∙ ap (λ (y : Directory). y.tail) f)) can.tail_is)
 
-pub close_undone : (z : Sizes) (k : LevelState) (given : List Given) (latched : List ℕ) (s : ℕ) (r : Result Plan Refusal) → IfOk r (λ p. (k : LevelState) → IsReopened z k given s p k)
-    → IfErr r (λ e. RefusesOther s (CanMark z given s false) e) → Undoes (Some z) (Some (Close s)) k given latched r k
-close_undone z k given latched s (Ok p) ok err = ok k
-close_undone z k given latched s (Err e) ok err = (err, refl)
+pub close_undone : {X : Type 0} (z : Sizes) (k : LevelState) (given : List Given) (latched : List ℕ) (s : ℕ) (p : Plan) (r : Result X Refusal) → OnOk r ((k : LevelState) → IsReopened z k given s p k)
+    → IfErr r (λ e. RefusesOther s (CanMark z given s false) e) → Undoes (Some z) (Some (Close s)) k given latched (with_plan p r) k
+close_undone z k given latched s p (Ok x) ok err = ok k
+close_undone z k given latched s p (Err e) ok err = (err, refl)

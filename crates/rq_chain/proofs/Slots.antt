@@ -97,14 +97,3 @@ same_write a x y v w before after = ap (λ (s : Slot). record_write a s y) befor
 
 pub same_write_at : (a b : ℕ) (x y v w : Slot) → a ≡ b → x ≡ v → y ≡ w → record_write a x y ≡ record_write b v w
 same_write_at a b x y v w at before after = ap (λ (n : ℕ). record_write n x y) at ∙ same_write b x y v w before after
-
--- two and three writes
-pub two_writes : (z : Sizes) (ws : List SlotWrite) (a b : SlotWrite) → ws ≡ a ∷ b ∷ [] → IsSlotWrite z a → IsSlotWrite z b → AreSlotWrites z ws
-two_writes z ws a b e one two =
-    let is = IsSlotWrite z in
-    subst (All is) (sym e) (All-cons is a (b ∷ []) one (All-cons is b [] two (All-nil is)))
-
-pub three_writes : (z : Sizes) (ws : List SlotWrite) (a b d : SlotWrite) → ws ≡ a ∷ b ∷ d ∷ [] → IsSlotWrite z a → IsSlotWrite z b → IsSlotWrite z d → AreSlotWrites z ws
-three_writes z ws a b d e one two three =
-    let is = IsSlotWrite z in
-    subst (All is) (sym e) (All-cons is a (b ∷ d ∷ []) one (All-cons is b (d ∷ []) two (All-cons is d [] three (All-nil is))))

@@ -1,5 +1,5 @@
 -- A sender's group, the cells beside those that an operation writes, and clients' slots that were given.
-use Rattle.std.specs.Prelude.{◌≡◌, ℕ, ◌<◌, List, Option, Some, None}
+use Rattle.std.specs.Prelude.{◌≡◌, ℕ, ◌<◌, ◌+◌, List, Option, Some, None}
 use Rattle.rq_page.specs.declared.cell.Cell.{Cell}
 use Rattle.rq_page.specs.declared.client.ClientSlot.{ClientSlot}
 use Rattle.rq_page.specs.Sizes.{Sizes, IsCellAddress, client_count, client_slot_at, directory_at, sender_count}
@@ -32,6 +32,17 @@ pub record IsGroupOf (z : Sizes) (g : DirectoryEntry) : Type 0 where
   pub at : g.at ≡ directory_at g.sender
   pub sender : g.sender < sender_count z
   pub directory : IsDirectoryOf z g.sender (record { sender = g.sender; directory = g.directory })
+
+-- the cell of a group's next message
+abbrev pub cell_appended : DirectoryEntry → (tag : ℕ) → (body : List ℕ) → Cell
+cell_appended g tag body = record {
+  sender = g.sender;
+  sequence = g.directory.sent + 1;
+  tag = tag;
+  next = 0;
+  prev = g.directory.tail;
+  body = body;
+}
 
 -- the client is one of the store's, and its slot was given, which holds this
 pub record IsClientGiven (z : Sizes) (given : List Given) (c : ℕ) (held : ClientSlot) : Type 0 where

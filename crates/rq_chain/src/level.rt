@@ -1,10 +1,11 @@
 //! The chains of all senders as a level of recovery.
-ghost use Rattle.std.specs.Prelude.{◌≡◌, ◌<◌, ◌≤◌, IfOk, IfErr, IfSome, IfNone, OnErr, None, Some, length, true, false};
+ghost use Rattle.std.specs.Prelude.{◌≡◌, ◌<◌, ◌≤◌, IfOk, IfErr, IfSome, IfNone, OnErr, OnOk, None, Some, length, true, false};
 ghost use Rattle.std.specs.Bool.{OnTrue, OnFalse};
 ghost use Rattle.rq_page.specs.Sizes.{IsCellAddress, place_of};
 ghost use Rattle.rq_level.specs.LevelState.{LevelState, IsLowest, NoneToTake, NoneFree, SomeFree, reserved_at, told_sizes, is_cell_address, noted_cell, noted};
 ghost use Rattle.rq_level.specs.Given.{AreGiven};
 ghost use Rattle.rq_level.specs.ChainPlans.{CanSend, IsSent, RefusesTaking, CanReceive, IsReceived, RefusesOther, CanMark, IsMarked, IsClosed, CanUnlinkTail, IsTailUnlinked, CanPutBack, IsReturned, IsReopened, IsInverse, IsOfSender, Undoes};
+ghost use Rattle.rq_level.specs.Writes.{with_plan};
 ghost use Rattle.rq_level.specs.declared.writes.Plan.{Plan};
 ghost use Rattle.rq_chain.specs.Refusing.{NoCell};
 
@@ -12,12 +13,10 @@ use crate::answers::answer;
 use crate::cells::FreeCells;
 use crate::doing::{Doing, read_doing};
 use crate::given::{SENT_LIMIT, beside_given, cell_given, group_given, head_of, tail_of};
-use crate::plans::{append, put_back, set_closed, unlink_head, unlink_tail};
+use crate::plans::{append, next_cell, put_back, set_closed, unlink_head, unlink_tail};
 use crate::wants::{body_in, next_in, prev_in, sequence_in, tag_in, wanted};
 use byteorder::{BigEndian, ByteOrder};
-use rq_level::{
-    Gist, Level, Op, Outcome, PageSet, Plan, Replies, SlotWrite, Slots, Want, redo_page,
-};
+use rq_level::{Gist, Level, Op, Outcome, PageSet, Plan, Replies, Slots, Want, redo_page};
 use rq_model::message::Body;
 use rq_model::record::{Deed, DeedBytes, Record, Slot};
 use rq_model::refusal::{Damage, NoMemory, Refusal};
@@ -119,21 +118,21 @@ impl ChainLevel {
         self.cells.note(layout.cell_place(at), free);
     }
 
-    // The plan of a send.
+    // Plans a send.
     #[inline(never)]
     fn plan_send(
         &mut self,
-        room: Vec<SlotWrite>,
+        plan: &mut Plan,
         layout: &Layout,
         given: &Slots,
         latched: &PageSet,
         sender: u32,
         tag: u64,
         body: &[u8],
-    ) -> Result<Plan, Refusal>
+    ) -> Result<(), Refusal>
         requires given { AreGiven layout.now given.now }
         requires short { length body.now ≤ 216 }
-        ensures ok { IfOk result (λ p. IsSent layout.now self.old given.now latched.now.pages sender tag body.now p self.new) }
+        ensures ok { OnOk result (IsSent layout.now self.old given.now latched.now.pages sender tag body.now plan.new self.new) }
         ensures err { IfErr result (λ r. RefusesTaking layout.now self.old latched.now.pages sender (CanSend layout.now given.now sender) r) }
         ensures kept { OnErr result (self.new ≡ self.old) }
     {
@@ -153,30 +152,34 @@ impl ChainLevel {
         let Some(free) = self.lowest(layout, latched) else {
             return Err(self.no_cell(layout, sender));
         };
-        let body = Body::new(body).unwrap();
-        let Ok(writes) = append(room, layout, &group, &tail, free, tag, &body) else {
+        let new = next_cell(layout, &group, tag, body);
+        let Ok(()) = append(&mut plan.writes, layout, &group, &tail, free, &new) else {
             return Err(Refusal::NoMemory);
         };
         self.reserve(layout, free);
         let directory = &group.directory;
-        Ok(Plan {
-            writes,
-            deed: encode_append(sender, directory.sent + 1, tag, directory.last_tag, &body),
-            reply: Replies::Deed(Gist::Append { sender, tag }),
-        })
+        plan.deed = encode_append(
+            sender,
+            directory.sent + 1,
+            tag,
+            directory.last_tag,
+            &new.body,
+        );
+        plan.reply = Replies::Deed(Gist::Append { sender, tag });
+        Ok(())
     }
 
-    // The plan of a receive.
+    // Plans a receive.
     #[inline(never)]
     fn plan_receive(
         &self,
-        room: Vec<SlotWrite>,
+        plan: &mut Plan,
         layout: &Layout,
         given: &Slots,
         sender: u32,
-    ) -> Result<Plan, Refusal>
+    ) -> Result<(), Refusal>
         requires { AreGiven layout.now given.now }
-        ensures ok { IfOk result (λ p. IsReceived layout.now self.now given.now sender p self.now) }
+        ensures ok { OnOk result (IsReceived layout.now self.now given.now sender plan.new self.now) }
         ensures err { IfErr result (λ r. RefusesOther sender (CanReceive layout.now given.now sender) r) }
     {
         let damaged = Refusal::Damaged(damage_of(sender));
@@ -195,48 +198,45 @@ impl ChainLevel {
         let Some(next) = beside_given(layout, given, next_in(head.bytes)) else {
             return Err(damaged);
         };
-        let Ok(writes) = unlink_head(room, layout, &group, &head, &next) else {
+        let Ok(()) = unlink_head(&mut plan.writes, layout, &group, &head, &next) else {
             return Err(Refusal::NoMemory);
         };
         let sequence = group.directory.received + 1;
-        Ok(Plan {
-            writes,
-            deed: encode_unlink_head(sender, sequence, tag_in(head.bytes), &body_in(head.bytes)),
-            reply: Replies::Deed(Gist::UnlinkHead { sender }),
-        })
+        plan.deed = encode_unlink_head(sender, sequence, tag_in(head.bytes), &body_in(head.bytes));
+        plan.reply = Replies::Deed(Gist::UnlinkHead { sender });
+        Ok(())
     }
 
-    // The plan of a close.
+    // Plans a close.
     fn plan_close(
         &self,
-        room: Vec<SlotWrite>,
+        plan: &mut Plan,
         layout: &Layout,
         given: &Slots,
         sender: u32,
-    ) -> Result<Plan, Refusal>
+    ) -> Result<(), Refusal>
         requires { AreGiven layout.now given.now }
-        ensures ok { IfOk result (λ p. IsClosed layout.now self.now given.now sender p self.now) }
+        ensures ok { OnOk result (IsClosed layout.now self.now given.now sender plan.new self.now) }
         ensures err { IfErr result (λ r. RefusesOther sender (CanMark layout.now given.now sender true) r) }
     {
-        let writes = closed_writes(room, layout, given, sender, true)?;
-        Ok(Plan {
-            writes,
-            deed: encode_close(sender),
-            reply: Replies::Deed(Gist::Close { sender }),
-        })
+        put_closed(plan, layout, given, sender, true)?;
+        plan.deed = encode_close(sender);
+        plan.reply = Replies::Deed(Gist::Close { sender });
+        Ok(())
     }
 
-    // The plan of what takes back a deed's operation.
+    // Plans what takes back a deed's operation.
     fn plan_undo(
         &mut self,
-        room: Vec<SlotWrite>,
+        plan: &mut Plan,
         layout: &Layout,
         deed: &Deed,
         given: &Slots,
         latched: &PageSet,
-    ) -> Result<Plan, Refusal>
+    ) -> Result<(), Refusal>
         requires { AreGiven layout.now given.now }
-        ensures { Undoes (Some layout.now) (Some deed.now) self.old given.now latched.now.pages result self.new }
+        ensures { Undoes (Some layout.now) (Some deed.now) self.old given.now latched.now.pages
+            (with_plan plan.new result) self.new }
     {
         match deed {
             Deed::Append {
@@ -244,23 +244,23 @@ impl ChainLevel {
                 sequence,
                 previous,
                 ..
-            } => unlinked_tail(room, layout, given, *sender, *sequence, *previous),
+            } => unlink_last(plan, layout, given, *sender, *sequence, *previous),
             Deed::UnlinkHead {
                 sender,
                 sequence,
                 tag,
                 body,
-            } => self.plan_return(room, layout, given, latched, *sender, *sequence, *tag, body),
-            Deed::Close { sender } => reopened(room, layout, given, *sender),
+            } => self.plan_return(plan, layout, given, latched, *sender, *sequence, *tag, body),
+            Deed::Close { sender } => reopen(plan, layout, given, *sender),
             Deed::Mark { .. } => Err(Refusal::Damaged(Damage::Page(0))),
         }
     }
 
-    // The plan of the inverse of a receive.
+    // Plans the inverse of a receive.
     #[inline(never)]
     fn plan_return(
         &mut self,
-        room: Vec<SlotWrite>,
+        plan: &mut Plan,
         layout: &Layout,
         given: &Slots,
         latched: &PageSet,
@@ -268,10 +268,10 @@ impl ChainLevel {
         sequence: u64,
         tag: u64,
         body: &Body,
-    ) -> Result<Plan, Refusal>
+    ) -> Result<(), Refusal>
         requires { AreGiven layout.now given.now }
-        ensures ok { IfOk result (λ p. IsReturned layout.now self.old given.now latched.now.pages sender sequence tag
-            body.now p self.new) }
+        ensures ok { OnOk result (IsReturned layout.now self.old given.now latched.now.pages sender sequence tag
+            body.now plan.new self.new) }
         ensures err { IfErr result (λ r. RefusesTaking layout.now self.old latched.now.pages sender
             (CanPutBack layout.now given.now sender sequence) r) }
         ensures kept { OnErr result (self.new ≡ self.old) }
@@ -292,11 +292,12 @@ impl ChainLevel {
         let Some(free) = self.lowest(layout, latched) else {
             return Err(self.no_cell(layout, sender));
         };
-        let Ok(writes) = put_back(room, layout, &group, &head, free, tag, body) else {
+        let Ok(()) = put_back(&mut plan.writes, layout, &group, &head, free, tag, body) else {
             return Err(Refusal::NoMemory);
         };
         self.reserve(layout, free);
-        Ok(inverse(writes))
+        take_back(plan);
+        Ok(())
     }
 
     // Why no cell may be taken for a sender, where none may.
@@ -342,11 +343,11 @@ impl Level for ChainLevel {
     #[inline(always)]
     fn plan(
         &mut self,
-        room: Vec<SlotWrite>,
         op: &Op,
         given: &Slots,
         latched: &PageSet,
-    ) -> Result<Plan, Refusal> {
+        plan: &mut Plan,
+    ) -> Result<(), Refusal> {
         if op.is_undo() || op.level() != 1 {
             return Err(Refusal::Damaged(Damage::Page(0)));
         }
@@ -355,21 +356,21 @@ impl Level for ChainLevel {
         };
         match read_doing(op.bytes()) {
             Some(Doing::Send { sender, tag, body }) => {
-                self.plan_send(room, &layout, given, latched, sender, tag, body)
+                self.plan_send(plan, &layout, given, latched, sender, tag, body)
             }
-            Some(Doing::Receive { sender }) => self.plan_receive(room, &layout, given, sender),
-            Some(Doing::Close { sender }) => self.plan_close(room, &layout, given, sender),
+            Some(Doing::Receive { sender }) => self.plan_receive(plan, &layout, given, sender),
+            Some(Doing::Close { sender }) => self.plan_close(plan, &layout, given, sender),
             None => Err(Refusal::Damaged(Damage::Page(0))),
         }
     }
 
     fn undo(
         &mut self,
-        room: Vec<SlotWrite>,
         record: &Record,
         given: &Slots,
         latched: &PageSet,
-    ) -> Result<Plan, Refusal> {
+        plan: &mut Plan,
+    ) -> Result<(), Refusal> {
         let Record::OpEnd { level, deed, .. } = record else {
             return Err(Refusal::Damaged(Damage::Page(0)));
         };
@@ -379,7 +380,7 @@ impl Level for ChainLevel {
         let Some(deed) = decode_told(*level, deed.as_slice()) else {
             return Err(Refusal::Damaged(Damage::Page(0)));
         };
-        self.plan_undo(room, &layout, &deed, given, latched)
+        self.plan_undo(plan, &layout, &deed, given, latched)
     }
 
     fn redo(&mut self, page: &mut Page, lsn: Lsn, record: &Record) -> bool {
@@ -398,16 +399,16 @@ fn damage_of(sender: u32) -> Damage
     Damage::Page(1 + sender / SLOTS)
 }
 
-// The write that closes a group or opens it again, where it is not so already.
-fn closed_writes(
-    room: Vec<SlotWrite>,
+// Puts the write that closes a group or opens it again, where it is not so already.
+fn put_closed(
+    plan: &mut Plan,
     layout: &Layout,
     given: &Slots,
     sender: u32,
     closed: bool,
-) -> Result<Vec<SlotWrite>, Refusal>
+) -> Result<(), Refusal>
     requires { AreGiven layout.now given.now }
-    ensures ok { IfOk result (λ writes. (p : Plan) → p.writes ≡ writes → IsMarked layout.now given.now sender closed p) }
+    ensures ok { OnOk result ((p : Plan) → p.writes ≡ plan.new.writes → IsMarked layout.now given.now sender closed p) }
     ensures err { IfErr result (λ r. RefusesOther sender (CanMark layout.now given.now sender closed) r) }
 {
     let damaged = Refusal::Damaged(damage_of(sender));
@@ -420,39 +421,35 @@ fn closed_writes(
     if group.directory.closed == closed {
         return Err(damaged);
     }
-    match set_closed(room, layout, &group, closed) {
-        Ok(writes) => Ok(writes),
+    match set_closed(&mut plan.writes, layout, &group, closed) {
+        Ok(()) => Ok(()),
         Err(NoMemory) => Err(Refusal::NoMemory),
     }
 }
 
-// The plan of the inverse of a close.
-fn reopened(
-    room: Vec<SlotWrite>,
-    layout: &Layout,
-    given: &Slots,
-    sender: u32,
-) -> Result<Plan, Refusal>
+// Plans the inverse of a close.
+fn reopen(plan: &mut Plan, layout: &Layout, given: &Slots, sender: u32) -> Result<(), Refusal>
     requires { AreGiven layout.now given.now }
-    ensures ok { IfOk result (λ p. (k : LevelState) → IsReopened layout.now k given.now sender p k) }
+    ensures ok { OnOk result ((k : LevelState) → IsReopened layout.now k given.now sender plan.new k) }
     ensures err { IfErr result (λ r. RefusesOther sender (CanMark layout.now given.now sender false) r) }
 {
-    let writes = closed_writes(room, layout, given, sender, false)?;
-    Ok(inverse(writes))
+    put_closed(plan, layout, given, sender, false)?;
+    take_back(plan);
+    Ok(())
 }
 
-// The plan of the inverse of a send.
+// Plans the inverse of a send.
 #[inline(never)]
-fn unlinked_tail(
-    room: Vec<SlotWrite>,
+fn unlink_last(
+    plan: &mut Plan,
     layout: &Layout,
     given: &Slots,
     sender: u32,
     sequence: u64,
     previous: u64,
-) -> Result<Plan, Refusal>
+) -> Result<(), Refusal>
     requires { AreGiven layout.now given.now }
-    ensures ok { IfOk result (λ p. (k : LevelState) → IsTailUnlinked layout.now k given.now sender sequence previous p k) }
+    ensures ok { OnOk result ((k : LevelState) → IsTailUnlinked layout.now k given.now sender sequence previous plan.new k) }
     ensures err { IfErr result (λ r. RefusesOther sender (CanUnlinkTail layout.now given.now sender sequence) r) }
 {
     let damaged = Refusal::Damaged(damage_of(sender));
@@ -478,22 +475,22 @@ fn unlinked_tail(
     let Some(front) = beside_given(layout, given, prev_in(tail.bytes)) else {
         return Err(damaged);
     };
-    match unlink_tail(room, layout, &group, &tail, &front, previous) {
-        Ok(writes) => Ok(inverse(writes)),
+    match unlink_tail(&mut plan.writes, layout, &group, &tail, &front, previous) {
+        Ok(()) => {
+            take_back(plan);
+            Ok(())
+        }
         Err(NoMemory) => Err(Refusal::NoMemory),
     }
 }
 
-/// The plan of an inverse, with these writes.
-pub(crate) fn inverse(writes: Vec<SlotWrite>) -> Plan
-    ensures writes { result.writes ≡ writes }
-    ensures inverse { IsInverse result }
+/// Makes a plan that of an inverse, with the writes that stand there.
+pub(crate) fn take_back(plan: &mut Plan)
+    ensures writes { plan.new.writes ≡ plan.old.writes }
+    ensures inverse { IsInverse plan.new }
 {
-    Plan {
-        writes,
-        deed: DeedBytes::new(&[]).unwrap(),
-        reply: Replies::Undone,
-    }
+    plan.deed = DeedBytes::joined(&[], &[]);
+    plan.reply = Replies::Undone;
 }
 
 /// The layout that a superblock's slot tells, where a store may have it.

@@ -1,5 +1,5 @@
 //! The plans of marks of clients' tags.
-ghost use Rattle.std.specs.Prelude.{◌≡◌, ◌+◌, ◌-◌, ◌<◌, ◌^◌, [], ◌∷◌, IfErr, IfOk, reverse};
+ghost use Rattle.std.specs.Prelude.{◌≡◌, ◌+◌, ◌-◌, ◌<◌, ◌^◌, [], ◌∷◌, IfErr, OnOk, reverse};
 ghost use Rattle.rq_page.specs.Clients.{IsClientSlot};
 ghost use Rattle.rq_page.specs.Sizes.{client_count};
 ghost use Rattle.rq_views.specs.Items.{layout_of};
@@ -11,24 +11,24 @@ ghost use Rattle.rq_level.specs.Writes.{AreSlotWrites, writes_of};
 ghost use Rattle.rq_chain.specs.Refusing.{IsOfClient};
 
 use crate::given::{MARK_LIMIT, client_given};
-use crate::level::inverse;
+use crate::level::take_back;
 use crate::writes::client_write;
-use rq_level::{Gist, Plan, Replies, SlotWrite, Slots, only};
+use rq_level::{Gist, Plan, Replies, SlotWrite, Slots, put_only};
 use rq_model::refusal::{Damage, NoMemory, Refusal};
 use rq_page::client::ClientSlot;
 use rq_page::layout::{Layout, SLOTS};
 use rq_record::encode_mark;
 
-/// The plan of a mark.
-pub(crate) fn marked(
-    room: Vec<SlotWrite>,
+/// Plans a mark.
+pub(crate) fn mark(
+    plan: &mut Plan,
     layout: &Layout,
     given: &Slots,
     client: u32,
     tag: u64,
-) -> Result<Plan, Refusal>
+) -> Result<(), Refusal>
     requires { AreGiven layout.now given.now }
-    ensures ok { IfOk result (λ p. (k : LevelState) → IsTagPlan layout.now k given.now client tag p k) }
+    ensures ok { OnOk result ((k : LevelState) → IsTagPlan layout.now k given.now client tag plan.new k) }
     ensures err { IfErr result (λ r. RefusesTag layout.now client (CanTag layout.now given.now client) r) }
 {
     let damaged = Refusal::Damaged(damage_of(layout, client));
@@ -38,27 +38,27 @@ pub(crate) fn marked(
     if held.count > MARK_LIMIT {
         return Err(damaged);
     }
-    match rewritten(room, layout, &held, &counted(&held, tag)) {
-        Ok(writes) => Ok(Plan {
-            writes,
-            deed: encode_mark(client, tag, held.tag),
-            reply: Replies::Deed(Gist::Mark { client, tag }),
-        }),
+    match rewrite(&mut plan.writes, layout, &held, &counted(&held, tag)) {
+        Ok(()) => {
+            plan.deed = encode_mark(client, tag, held.tag);
+            plan.reply = Replies::Deed(Gist::Mark { client, tag });
+            Ok(())
+        }
         Err(NoMemory) => Err(Refusal::NoMemory),
     }
 }
 
-/// The plan of the inverse of a mark.
-pub(crate) fn unmarked(
-    room: Vec<SlotWrite>,
+/// Plans the inverse of a mark.
+pub(crate) fn unmark(
+    plan: &mut Plan,
     layout: &Layout,
     given: &Slots,
     client: u32,
     tag: u64,
     previous: u64,
-) -> Result<Plan, Refusal>
+) -> Result<(), Refusal>
     requires { AreGiven layout.now given.now }
-    ensures ok { IfOk result (λ p. (k : LevelState) → IsUntagPlan layout.now k given.now client tag previous p k) }
+    ensures ok { OnOk result ((k : LevelState) → IsUntagPlan layout.now k given.now client tag previous plan.new k) }
     ensures err { IfErr result (λ r. RefusesTag layout.now client (CanUntag layout.now given.now client tag) r) }
 {
     let damaged = Refusal::Damaged(damage_of(layout, client));
@@ -68,28 +68,31 @@ pub(crate) fn unmarked(
     if held.count == 0 || held.tag != tag {
         return Err(damaged);
     }
-    match rewritten(room, layout, &held, &uncounted(&held, previous)) {
-        Ok(writes) => Ok(inverse(writes)),
+    match rewrite(&mut plan.writes, layout, &held, &uncounted(&held, previous)) {
+        Ok(()) => {
+            take_back(plan);
+            Ok(())
+        }
         Err(NoMemory) => Err(Refusal::NoMemory),
     }
 }
 
-// The write that has a client's slot hold something else, in a vector.
-fn rewritten(
-    room: Vec<SlotWrite>,
+// Puts the write that has a client's slot hold something else.
+fn rewrite(
+    writes: &mut Vec<SlotWrite>,
     layout: &Layout,
     held: &ClientSlot,
     after: &ClientSlot,
-) -> Result<Vec<SlotWrite>, NoMemory>
+) -> Result<(), NoMemory>
     requires below { held.now.client < client_count layout.now }
     requires held { IsClientSlot held.now }
     requires after { IsClientSlot after.now }
     requires same { after.now.client ≡ held.now.client }
-    ensures writes { IfOk result (λ writes. reverse (writes_of layout.now writes.items)
+    ensures writes { OnOk result (reverse (writes_of layout.now writes.new.items)
         ≡ client_write (layout_of layout.now) held.now after.now ∷ []) }
-    ensures slots { IfOk result (λ writes. AreSlotWrites layout.now writes.items) }
+    ensures slots { OnOk result (AreSlotWrites layout.now writes.new.items) }
 {
-    only(room, client_write(layout, held, after))
+    put_only(writes, client_write(layout, held, after))
 }
 
 // What a client's slot holds once it counts one tag more.

@@ -1,5 +1,5 @@
 //! The plans of chain operations.
-ghost use Rattle.std.specs.Prelude.{◌≡◌, ◌+◌, ◌-◌, ◌^◌, ◌<◌, IfOk, reverse, [], ◌∷◌};
+ghost use Rattle.std.specs.Prelude.{◌≡◌, ◌+◌, ◌-◌, ◌^◌, ◌<◌, ◌≤◌, OnOk, length, reverse, [], ◌∷◌};
 ghost use Rattle.rq_page.specs.Cells.{cell_in};
 ghost use Rattle.rq_page.specs.Sizes.{IsCellAddress};
 ghost use Rattle.rq_page.specs.Slots.{IsCellOf, IsDirectoryOf, Used};
@@ -7,12 +7,14 @@ ghost use Rattle.rq_views.specs.Chain.{directory_appended};
 ghost use Rattle.rq_views.specs.Items.{layout_of};
 ghost use Rattle.rq_views.specs.Plans.{append_writes, unlink_head_writes, unlink_tail_writes, put_back_writes, directory_write, directory_head_unlinked, directory_tail_unlinked, directory_put_back, with_next, with_prev};
 ghost use Rattle.rq_level.specs.Writes.{write_of, writes_of, IsSlotWrite, AreSlotWrites};
-ghost use Rattle.rq_chain.specs.CellEntries.{cell_beside, IsCellEntryAt, IsGroupOf, IsNeighbour};
+ghost use Rattle.rq_chain.specs.CellEntries.{cell_appended, cell_beside, IsCellEntryAt, IsGroupOf, IsNeighbour};
 
 use crate::wants::{next_in, prev_in};
-use crate::writes::{beside_write, emptied, filled, followed, group_write, pair, preceded, triple};
+use crate::writes::{
+    beside_write, emptied, filled, followed, group_write, preceded, put_pair, put_triple,
+};
 use crate::{CellEntry, DirectoryEntry};
-use rq_level::{SlotWrite, only};
+use rq_level::{SlotWrite, put_only};
 use rq_model::message::{BODY_LIMIT, Body};
 use rq_model::refusal::NoMemory;
 use rq_page::addr::Addr;
@@ -20,148 +22,138 @@ use rq_page::cell::Cell;
 use rq_page::directory::Directory;
 use rq_page::layout::Layout;
 
-/// Puts a message at the end of a chain: into the free cell, which the tail, if there is one, then names.
+/// Puts a group's next cell at the end of its chain: into the free slot, which the tail, if there is one, then names.
 pub fn append(
-    room: Vec<SlotWrite>,
+    writes: &mut Vec<SlotWrite>,
     layout: &Layout,
     group: &DirectoryEntry,
     tail: &Option<CellEntry>,
     free: Addr,
-    tag: u64,
-    body: &Body,
-) -> Result<Vec<SlotWrite>, NoMemory>
+    new: &Cell,
+) -> Result<(), NoMemory>
     requires room { group.now.directory.sent < 2 ^ 64 - 1 }
+    requires new { new.now ≡ cell_appended group.now new.now.tag new.now.body }
+    requires fits { IsCellOf layout.now new.now }
     requires group { IsGroupOf layout.now group.now }
     requires tail { IsNeighbour layout.now group.now.directory.tail tail.now }
     requires free { IsCellAddress layout.now free }
-    ensures writes { IfOk result (λ writes. reverse (writes_of layout.now writes.items)
-        ≡ append_writes (layout_of layout.now) group.now.sender group.now.directory free tag body.now (cell_beside tail.now)) }
-    ensures slots { IfOk result (λ writes. AreSlotWrites layout.now writes.items) }
+    ensures writes { OnOk result (reverse (writes_of layout.now writes.new.items)
+        ≡ append_writes (layout_of layout.now) group.now.sender group.now.directory free new.now.tag new.now.body (cell_beside tail.now)) }
+    ensures slots { OnOk result (AreSlotWrites layout.now writes.new.items) }
 {
-    let new = next_cell(layout, group, tag, body);
-    let first = filled(layout, free, &new);
-    let last = group_write(layout, group, &appended(layout, group, free, tag));
-    let writes = match tail {
-        None => pair(room, first, last)?,
-        Some(before) => triple(room, first, link_write(layout, before, free), last)?,
-    };
-    Ok(writes)
+    let first = filled(layout, free, new);
+    let last = group_write(layout, group, &appended(layout, group, free, new.tag));
+    match tail {
+        None => put_pair(writes, first, last),
+        Some(before) => put_triple(writes, first, link_write(layout, before, free), last),
+    }
 }
 
 /// Takes the first message off a chain: frees its cell, and has the next one, if there is one, come first.
 pub fn unlink_head(
-    room: Vec<SlotWrite>,
+    writes: &mut Vec<SlotWrite>,
     layout: &Layout,
     group: &DirectoryEntry,
     head: &CellEntry,
     next: &Option<CellEntry>,
-) -> Result<Vec<SlotWrite>, NoMemory>
+) -> Result<(), NoMemory>
     requires some { group.now.directory.received < group.now.directory.sent }
     requires group { IsGroupOf layout.now group.now }
     requires head { IsCellEntryAt layout.now group.now.directory.head head.now }
     requires next { IsNeighbour layout.now (cell_in head.now.bytes.now).next next.now }
-    ensures writes { IfOk result (λ writes. reverse (writes_of layout.now writes.items)
+    ensures writes { OnOk result (reverse (writes_of layout.now writes.new.items)
         ≡ unlink_head_writes (layout_of layout.now) group.now.sender group.now.directory (cell_in head.now.bytes.now)
         (cell_beside next.now)) }
-    ensures slots { IfOk result (λ writes. AreSlotWrites layout.now writes.items) }
+    ensures slots { OnOk result (AreSlotWrites layout.now writes.new.items) }
 {
     let first = emptied(layout, head);
     let last = group_write(layout, group, &head_unlinked(layout, group, head));
-    let writes = match next {
-        None => pair(room, first, last)?,
-        Some(after) => triple(room, first, unlink_write(layout, after), last)?,
-    };
-    Ok(writes)
+    match next {
+        None => put_pair(writes, first, last),
+        Some(after) => put_triple(writes, first, unlink_write(layout, after), last),
+    }
 }
 
 /// Takes the last message off a chain: frees its cell, and has the one before it, if there is one, come last.
 pub fn unlink_tail(
-    room: Vec<SlotWrite>,
+    writes: &mut Vec<SlotWrite>,
     layout: &Layout,
     group: &DirectoryEntry,
     tail: &CellEntry,
     front: &Option<CellEntry>,
     previous: u64,
-) -> Result<Vec<SlotWrite>, NoMemory>
+) -> Result<(), NoMemory>
     requires some { group.now.directory.received < group.now.directory.sent }
     requires group { IsGroupOf layout.now group.now }
     requires tail { IsCellEntryAt layout.now group.now.directory.tail tail.now }
     requires front { IsNeighbour layout.now (cell_in tail.now.bytes.now).prev front.now }
-    ensures writes { IfOk result (λ writes. reverse (writes_of layout.now writes.items)
+    ensures writes { OnOk result (reverse (writes_of layout.now writes.new.items)
         ≡ unlink_tail_writes (layout_of layout.now) group.now.sender group.now.directory (cell_in tail.now.bytes.now) previous
         (cell_beside front.now)) }
-    ensures slots { IfOk result (λ writes. AreSlotWrites layout.now writes.items) }
+    ensures slots { OnOk result (AreSlotWrites layout.now writes.new.items) }
 {
     let first = emptied(layout, tail);
     let after = tail_unlinked(layout, group, tail, previous);
     let last = group_write(layout, group, &after);
-    let writes = match front {
-        None => pair(room, first, last)?,
-        Some(before) => triple(room, first, cut_write(layout, before), last)?,
-    };
-    Ok(writes)
+    match front {
+        None => put_pair(writes, first, last),
+        Some(before) => put_triple(writes, first, cut_write(layout, before), last),
+    }
 }
 
 /// Puts a message back in front of a chain: into the free cell, which the head, if there is one, then follows.
 pub fn put_back(
-    room: Vec<SlotWrite>,
+    writes: &mut Vec<SlotWrite>,
     layout: &Layout,
     group: &DirectoryEntry,
     head: &Option<CellEntry>,
     free: Addr,
     tag: u64,
     body: &Body,
-) -> Result<Vec<SlotWrite>, NoMemory>
+) -> Result<(), NoMemory>
     requires some { 0 < group.now.directory.received }
     requires group { IsGroupOf layout.now group.now }
     requires head { IsNeighbour layout.now group.now.directory.head head.now }
     requires free { IsCellAddress layout.now free }
-    ensures writes { IfOk result (λ writes. reverse (writes_of layout.now writes.items)
+    ensures writes { OnOk result (reverse (writes_of layout.now writes.new.items)
         ≡ put_back_writes (layout_of layout.now) group.now.sender group.now.directory free tag body.now (cell_beside head.now)) }
-    ensures slots { IfOk result (λ writes. AreSlotWrites layout.now writes.items) }
+    ensures slots { OnOk result (AreSlotWrites layout.now writes.new.items) }
 {
     let new = returned_cell(layout, group, tag, body);
     let first = filled(layout, free, &new);
     let last = group_write(layout, group, &returned(layout, group, free));
-    let writes = match head {
-        None => pair(room, first, last)?,
-        Some(after) => triple(room, first, lead_write(layout, after, free), last)?,
-    };
-    Ok(writes)
+    match head {
+        None => put_pair(writes, first, last),
+        Some(after) => put_triple(writes, first, lead_write(layout, after, free), last),
+    }
 }
 
 /// Closes a group, or opens it again.
 pub fn set_closed(
-    room: Vec<SlotWrite>,
+    writes: &mut Vec<SlotWrite>,
     layout: &Layout,
     group: &DirectoryEntry,
     closed: bool,
-) -> Result<Vec<SlotWrite>, NoMemory>
+) -> Result<(), NoMemory>
     requires group { IsGroupOf layout.now group.now }
-    ensures writes { IfOk result (λ writes. reverse (writes_of layout.now writes.items)
+    ensures writes { OnOk result (reverse (writes_of layout.now writes.new.items)
         ≡ directory_write (layout_of layout.now) group.now.sender group.now.directory
         (record group.now.directory { closed = closed }) ∷ []) }
-    ensures slots { IfOk result (λ writes. AreSlotWrites layout.now writes.items) }
+    ensures slots { OnOk result (AreSlotWrites layout.now writes.new.items) }
 {
     let write = group_write(layout, group, &with_closed(layout, group, closed));
-    only(room, write)
+    put_only(writes, write)
 }
 
-// The cell of a group's next message.
-fn next_cell(layout: &Layout, group: &DirectoryEntry, tag: u64, body: &Body) -> Cell
+/// The cell of a group's next message.
+#[inline(always)]
+pub(crate) fn next_cell(layout: &Layout, group: &DirectoryEntry, tag: u64, body: &[u8]) -> Cell
     requires room { group.now.directory.sent < 2 ^ 64 - 1 }
     requires group { IsGroupOf layout.now group.now }
-    ensures cell { result ≡ record {
-      sender = group.now.sender;
-      sequence = group.now.directory.sent + 1;
-      tag = tag;
-      next = 0;
-      prev = group.now.directory.tail;
-      body = body.now;
-    } }
+    requires short { length body.now ≤ 216 }
+    ensures cell { result ≡ cell_appended group.now tag body.now }
     ensures fits { IsCellOf layout.now result }
 {
-    prove!(body.as_slice().len() <= BODY_LIMIT);
     prove!(group.sender < layout.senders());
     Cell {
         sender: group.sender,
@@ -169,7 +161,7 @@ fn next_cell(layout: &Layout, group: &DirectoryEntry, tag: u64, body: &Body) -> 
         tag,
         next: Addr::NONE,
         prev: group.directory.tail,
-        body: *body,
+        body: Body::joined(&[], body),
     }
 }
 

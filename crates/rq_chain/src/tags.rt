@@ -1,7 +1,7 @@
 //! The tags of clients as a level of recovery.
 ghost use Rattle.std.specs.Prelude.{◌≡◌, ◌≤◌, cond, None, Some, option_map};
 ghost use Rattle.rq_model.specs.Deeds.{deed_by, mark_in};
-ghost use Rattle.rq_level.specs.Writes.{answer_of};
+ghost use Rattle.rq_level.specs.Writes.{answer_of, with_plan};
 ghost use Rattle.rq_level.specs.Given.{AreGiven};
 ghost use Rattle.rq_level.specs.LevelState.{LevelState, nothing_kept};
 ghost use Rattle.rq_level.specs.Ops.{tagging_by, tagging_in};
@@ -10,10 +10,10 @@ ghost use Rattle.rq_chain.specs.Doings.{told_tagging};
 
 use crate::doing::{Tagging, read_tagging};
 use crate::level::told_layout;
-use crate::marks::{marked, unmarked};
+use crate::marks::{mark, unmark};
 use crate::wants::slot_wanted;
 use byteorder::{BigEndian, ByteOrder};
-use rq_level::{Level, Op, Outcome, PageSet, Plan, SlotWrite, Slots, Want, redo_page};
+use rq_level::{Level, Op, Outcome, PageSet, Plan, Slots, Want, redo_page};
 use rq_model::record::{Deed, Record, Slot};
 use rq_model::refusal::{Damage, Refusal};
 use rq_model::txn::Lsn;
@@ -99,11 +99,11 @@ impl Level for TagLevel {
 
     fn plan(
         &mut self,
-        room: Vec<SlotWrite>,
         op: &Op,
         given: &Slots,
         _latched: &PageSet,
-    ) -> Result<Plan, Refusal> {
+        plan: &mut Plan,
+    ) -> Result<(), Refusal> {
         if op.is_undo() {
             return Err(Refusal::Damaged(Damage::Page(0)));
         }
@@ -111,18 +111,18 @@ impl Level for TagLevel {
             return Err(Refusal::Damaged(Damage::Page(0)));
         };
         match tagging_of(op) {
-            Some(Tagging { client, tag }) => marked(room, &layout, given, client, tag),
+            Some(Tagging { client, tag }) => mark(plan, &layout, given, client, tag),
             None => Err(Refusal::Damaged(Damage::Page(0))),
         }
     }
 
     fn undo(
         &mut self,
-        room: Vec<SlotWrite>,
         record: &Record,
         given: &Slots,
         _latched: &PageSet,
-    ) -> Result<Plan, Refusal> {
+        plan: &mut Plan,
+    ) -> Result<(), Refusal> {
         let Record::OpEnd { level, deed, .. } = record else {
             return Err(Refusal::Damaged(Damage::Page(0)));
         };
@@ -132,7 +132,7 @@ impl Level for TagLevel {
         let Some(deed) = decode_told(*level, deed.as_slice()) else {
             return Err(Refusal::Damaged(Damage::Page(0)));
         };
-        taken_back(room, &layout, &deed, given)
+        take_back(plan, &layout, &deed, given)
     }
 
     fn redo(&mut self, page: &mut Page, lsn: Lsn, record: &Record) -> bool {
@@ -203,22 +203,17 @@ fn client_in(bytes: &[u8], length: usize) -> Option<u32>
     }
 }
 
-// The plan of what takes back a deed's operation.
-fn taken_back(
-    room: Vec<SlotWrite>,
-    layout: &Layout,
-    deed: &Deed,
-    given: &Slots,
-) -> Result<Plan, Refusal>
+// Plans what takes back a deed's operation.
+fn take_back(plan: &mut Plan, layout: &Layout, deed: &Deed, given: &Slots) -> Result<(), Refusal>
     requires { AreGiven layout.now given.now }
-    ensures { (k : LevelState) → UndoesTag (Some layout.now) (Some deed.now) k given.now result k }
+    ensures { (k : LevelState) → UndoesTag (Some layout.now) (Some deed.now) k given.now (with_plan plan.new result) k }
 {
     match deed {
         Deed::Mark {
             client,
             tag,
             previous,
-        } => unmarked(room, layout, given, *client, *tag, *previous),
+        } => unmark(plan, layout, given, *client, *tag, *previous),
         Deed::Append { .. } => Err(Refusal::Damaged(Damage::Page(0))),
         Deed::UnlinkHead { .. } => Err(Refusal::Damaged(Damage::Page(0))),
         Deed::Close { .. } => Err(Refusal::Damaged(Damage::Page(0))),

@@ -160,7 +160,7 @@ pub(crate) fn body_in(bytes: &Slot) -> Body
     ensures { result ≡ (cell_in bytes.now).body }
 {
     let length = BigEndian::read_u16(&bytes[2..]) as usize;
-    Body::new(&bytes[40..40 + length]).unwrap()
+    Body::joined(&[], &bytes[40..40 + length])
 }
 
 fn u64_at(bytes: &[u8], at: usize) -> u64

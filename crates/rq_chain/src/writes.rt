@@ -1,5 +1,5 @@
 //! Writes of single slots.
-ghost use Rattle.std.specs.Prelude.{◌≡◌, ◌<◌, ◌≤◌, ◌++◌, [], ◌∷◌, IfOk};
+ghost use Rattle.std.specs.Prelude.{◌≡◌, ◌<◌, ◌≤◌, ◌++◌, [], ◌∷◌, OnOk};
 ghost use Rattle.rq_bytes.specs.Number.{with_number};
 ghost use Rattle.rq_page.specs.Cells.{cell_bytes, cell_in};
 ghost use Rattle.rq_page.specs.Clients.{IsClientSlot};
@@ -13,7 +13,7 @@ ghost use Rattle.rq_chain.specs.CellEntries.{IsGroupOf, IsCellEntryAt};
 
 use crate::{CellEntry, DirectoryEntry};
 use rq_bytes::Fields;
-use rq_level::{SlotWrite, only};
+use rq_level::{SlotWrite, put_only};
 use rq_model::record::Slot;
 use rq_model::refusal::NoMemory;
 use rq_page::addr::Addr;
@@ -150,40 +150,40 @@ fn relinked(bytes: &Slot, at: usize, link: Addr) -> Slot
     out
 }
 
-/// Two writes in a vector, in place of what stands there.
+/// Puts two writes into a vector, in place of what stands there.
 #[inline(always)]
-pub(crate) fn pair(
-    room: Vec<SlotWrite>,
+pub(crate) fn put_pair(
+    writes: &mut Vec<SlotWrite>,
     first: SlotWrite,
     last: SlotWrite,
-) -> Result<Vec<SlotWrite>, NoMemory>
-    ensures { IfOk result (λ all. all.items ≡ first ∷ last ∷ []) }
+) -> Result<(), NoMemory>
+    ensures { OnOk result (writes.new.items ≡ first ∷ last ∷ []) }
 {
-    let writes = only(room, first)?;
-    and(writes, last)
+    put_only(writes, first)?;
+    put_last(writes, last)
 }
 
-/// Three writes in a vector, in place of what stands there.
+/// Puts three writes into a vector, in place of what stands there.
 #[inline(always)]
-pub(crate) fn triple(
-    room: Vec<SlotWrite>,
+pub(crate) fn put_triple(
+    writes: &mut Vec<SlotWrite>,
     first: SlotWrite,
     second: SlotWrite,
     last: SlotWrite,
-) -> Result<Vec<SlotWrite>, NoMemory>
-    ensures { IfOk result (λ all. all.items ≡ first ∷ second ∷ last ∷ []) }
+) -> Result<(), NoMemory>
+    ensures { OnOk result (writes.new.items ≡ first ∷ second ∷ last ∷ []) }
 {
-    let writes = pair(room, first, second)?;
-    and(writes, last)
+    put_pair(writes, first, second)?;
+    put_last(writes, last)
 }
 
-// One write more.
+// Puts one write more.
 #[inline(always)]
-fn and(mut writes: Vec<SlotWrite>, last: SlotWrite) -> Result<Vec<SlotWrite>, NoMemory>
-    ensures { IfOk result (λ all. all.items ≡ writes.items ++ last ∷ []) }
+fn put_last(writes: &mut Vec<SlotWrite>, last: SlotWrite) -> Result<(), NoMemory>
+    ensures { OnOk result (writes.new.items ≡ writes.old.items ++ last ∷ []) }
 {
     match writes.push(last) {
-        Ok(()) => Ok(writes),
+        Ok(()) => Ok(()),
         Err(_) => Err(NoMemory),
     }
 }

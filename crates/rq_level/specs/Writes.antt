@@ -1,13 +1,15 @@
 -- Slot writes of a plan, as writes over what the slots hold, and what a deed's end answers.
-use Rattle.std.specs.Prelude.{◌≡◌, ℕ, ◌/◌, ◌%◌, List, [], ◌∷◌, map, All}
+use Rattle.std.specs.Prelude.{◌≡◌, ℕ, ◌/◌, ◌%◌, List, [], ◌∷◌, map, All, Result, Ok, Err}
 use Rattle.rq_model.specs.declared.record.Deed.{Deed}
 use Rattle.rq_model.specs.declared.record.Deed.TheVariants.{Append, UnlinkHead, Close, Mark}
+use Rattle.rq_model.specs.declared.refusal.Refusal.{Refusal}
 use Rattle.rq_page.specs.Sizes.{Sizes}
 use Rattle.rq_page.specs.Slots.{held_in, IsSlotOf}
 use Rattle.rq_views.specs.Log.{Write}
 use Rattle.rq_views.specs.Stored.{IsStoreSlot}
 use Rattle.rq_level.specs.declared.writes.Outcome.{Outcome}
 use Rattle.rq_level.specs.declared.writes.Outcome.TheVariants as gives
+use Rattle.rq_level.specs.declared.writes.Plan.{Plan}
 use Rattle.rq_level.specs.declared.writes.SlotWrite.{SlotWrite}
 
 -- the write, over what the slot holds
@@ -30,6 +32,11 @@ AreSlotWrites z ws = All (IsSlotWrite z) ws
 abbrev pub IsFirstAt : ℕ → List SlotWrite → Type 0
 IsFirstAt a [] = ⊥
 IsFirstAt a (w ∷ ws) = w.at ≡ a
+
+-- the answer of what puts a plan there
+abbrev pub with_plan : {X : Type 0} → Plan → Result X Refusal → Result Plan Refusal
+with_plan p (Ok x) = Ok p
+with_plan p (Err r) = Err r
 
 -- what the end of an operation answers that did this
 abbrev pub answer_of : Deed → Outcome

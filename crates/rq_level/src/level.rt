@@ -5,12 +5,12 @@ ghost use Rattle.rq_model.specs.Vocabulary.{is_some};
 ghost use Rattle.rq_level.specs.LevelState.{LevelState};
 ghost use Rattle.rq_level.specs.Lawful.{AllKeepAnew, AllLawful, AppliedTwiceIsOnce};
 ghost use Rattle.rq_level.specs.Worked.{WrongLevels};
-ghost use Rattle.rq_level.specs.Writes.{answer_of};
+ghost use Rattle.rq_level.specs.Writes.{answer_of, with_plan};
 ghost use Rattle.rq_level.specs.Meaning.{meaning_of, wish, AreOf, redo_of, AppliesOnce, IsRedo, IsAppliedOnce, NotesNothing};
 
 use crate::op::Op;
 use crate::slots::{PageSet, Slots};
-use crate::writes::{Outcome, Plan, SlotWrite};
+use crate::writes::{Outcome, Plan};
 use rq_model::record::{Record, Slot};
 use rq_model::refusal::Refusal;
 use rq_model::txn::Lsn;
@@ -57,29 +57,29 @@ pub trait Level: Drop {
         ensures { result ≡ wish ((meaning_of (level self.now)).want (kept self.now).sizes op.now given.now) };
 
     /// Plans an operation that is to be done, from the slots that it wanted. It takes no free cell on a latched page.
-    /// The writes are put into `room`, in place of what stands there.
+    /// The plan is put into `plan`, in place of what stands there; anything may stand there where it is refused.
     fn plan(
         &mut self,
-        room: Vec<SlotWrite>,
         op: &Op,
         given: &Slots,
         latched: &PageSet,
-    ) -> Result<Plan, Refusal>
+        plan: &mut Plan,
+    ) -> Result<(), Refusal>
         requires { AreOf (kept self.old).sizes given.now }
         ensures same { level self.new ≡ level self.old }
-        ensures answer { (meaning_of (level self.old)).plans (kept self.old) op.now given.now latched.now.pages result (kept self.new) };
+        ensures answer { (meaning_of (level self.old)).plans (kept self.old) op.now given.now latched.now.pages (with_plan plan.new result) (kept self.new) };
 
-    /// Plans what takes back the operation that the record tells, with its writes put into `room` likewise.
+    /// Plans what takes back the operation that the record tells, likewise.
     fn undo(
         &mut self,
-        room: Vec<SlotWrite>,
         record: &Record,
         given: &Slots,
         latched: &PageSet,
-    ) -> Result<Plan, Refusal>
+        plan: &mut Plan,
+    ) -> Result<(), Refusal>
         requires { AreOf (kept self.old).sizes given.now }
         ensures same { level self.new ≡ level self.old }
-        ensures answer { (meaning_of (level self.old)).undoes (kept self.old) «record».now given.now latched.now.pages result (kept self.new) };
+        ensures answer { (meaning_of (level self.old)).undoes (kept self.old) «record».now given.now latched.now.pages (with_plan plan.new result) (kept self.new) };
 
     /// Applies a record to its page, where the page is older, and answers whether it did.
     fn redo(&mut self, page: &mut Page, lsn: Lsn, record: &Record) -> bool
@@ -121,22 +121,22 @@ impl Level for Box<dyn Level + Send> {
 
     fn plan(
         &mut self,
-        room: Vec<SlotWrite>,
         op: &Op,
         given: &Slots,
         latched: &PageSet,
-    ) -> Result<Plan, Refusal> {
-        (**self).plan(room, op, given, latched)
+        plan: &mut Plan,
+    ) -> Result<(), Refusal> {
+        (**self).plan(op, given, latched, plan)
     }
 
     fn undo(
         &mut self,
-        room: Vec<SlotWrite>,
         record: &Record,
         given: &Slots,
         latched: &PageSet,
-    ) -> Result<Plan, Refusal> {
-        (**self).undo(room, record, given, latched)
+        plan: &mut Plan,
+    ) -> Result<(), Refusal> {
+        (**self).undo(record, given, latched, plan)
     }
 
     fn redo(&mut self, page: &mut Page, lsn: Lsn, record: &Record) -> bool {

@@ -3,13 +3,13 @@ ghost use Rattle.std.specs.Prelude.{◌≡◌, ℕ, ◌<◌, ◌≤◌, length, 
 ghost use Rattle.rq_model.specs.Deeds.{deed_by};
 ghost use Rattle.rq_model.specs.Vocabulary.{is_some};
 ghost use Rattle.rq_level.specs.LevelState.{LevelState};
-ghost use Rattle.rq_level.specs.Writes.{answer_of};
+ghost use Rattle.rq_level.specs.Writes.{answer_of, with_plan};
 ghost use Rattle.rq_level.specs.Meaning.{meaning_of, wish, AreOf, redo_of, AppliesOnce, AreTold, IsRedo, KeepsNothingAt, NotesNothing, kept_at, CountOn};
 
 use crate::level::{Level, Want};
 use crate::op::Op;
 use crate::slots::{PageSet, Slots};
-use crate::writes::{Outcome, Plan, SlotWrite};
+use crate::writes::{Outcome, Plan};
 use rq_model::record::{Record, Slot};
 use rq_model::refusal::Refusal;
 use rq_model::txn::Lsn;
@@ -90,37 +90,37 @@ impl<B: Level> Levels<B> {
     #[inline(always)]
     pub fn plan(
         &mut self,
-        room: Vec<SlotWrite>,
         level: usize,
         op: &Op,
         given: &Slots,
         latched: &PageSet,
-    ) -> Result<Plan, Refusal>
+        plan: &mut Plan,
+    ) -> Result<(), Refusal>
         requires level { level < length self.old }
         requires given { AreOf (kept_at self.old level).sizes given.now }
-        ensures answer { (meaning_of level).plans (kept_at self.old level) op.now given.now latched.now.pages result (kept_at self.new level) }
+        ensures answer { (meaning_of level).plans (kept_at self.old level) op.now given.now latched.now.pages (with_plan plan.new result) (kept_at self.new level) }
         ensures others { self.new ≡ slice_set self.old level (kept_at self.new level) }
     {
         let it = &mut self.all[level];
-        it.plan(room, op, given, latched)
+        it.plan(op, given, latched, plan)
     }
 
     /// Plans what takes back the operation that the record tells.
     pub fn undo(
         &mut self,
-        room: Vec<SlotWrite>,
         level: usize,
         record: &Record,
         given: &Slots,
         latched: &PageSet,
-    ) -> Result<Plan, Refusal>
+        plan: &mut Plan,
+    ) -> Result<(), Refusal>
         requires level { level < length self.old }
         requires given { AreOf (kept_at self.old level).sizes given.now }
-        ensures answer { (meaning_of level).undoes (kept_at self.old level) «record».now given.now latched.now.pages result (kept_at self.new level) }
+        ensures answer { (meaning_of level).undoes (kept_at self.old level) «record».now given.now latched.now.pages (with_plan plan.new result) (kept_at self.new level) }
         ensures others { self.new ≡ slice_set self.old level (kept_at self.new level) }
     {
         let it = &mut self.all[level];
-        it.undo(room, record, given, latched)
+        it.undo(record, given, latched, plan)
     }
 
     /// Has the level apply a record to its page, where the page is older.

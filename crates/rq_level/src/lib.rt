@@ -17,4 +17,6 @@ pub use level::{
 pub use levels::Levels;
 pub use op::Op;
 pub use slots::{Given, PageSet, Slots};
-pub use writes::{CHAIN_RECORDS, Gist, ONE_SLOT_RECORDS, Outcome, Plan, Replies, SlotWrite, only};
+pub use writes::{
+    CHAIN_RECORDS, Gist, ONE_SLOT_RECORDS, Outcome, Plan, Replies, SlotWrite, put_only,
+};

@@ -1,11 +1,12 @@
 //! Writes of slots, and plans of them.
-ghost use Rattle.std.specs.Prelude.{◌≡◌, ◌<◌, ◌^◌, ◌/◌, ◌%◌, [], ◌∷◌, IfOk};
+ghost use Rattle.std.specs.Prelude.{◌≡◌, ◌<◌, ◌^◌, ◌/◌, ◌%◌, [], ◌∷◌, OnOk};
 ghost use Rattle.rq_level.specs.Gists.{counted};
 
 use rq_model::message::Message;
 use rq_model::record::{DeedBytes, Slot};
 use rq_model::refusal::NoMemory;
 use rq_page::addr::Addr;
+use std::alloc::Global;
 
 /// A write of a slot: where, what stands there before it and what after it.
 #[derive(Clone, Copy)]
@@ -83,14 +84,28 @@ pub struct Plan {
     pub reply: Replies,
 }
 
-/// A write in a vector, in place of what stands there.
+impl Plan {
+    /// A plan of nothing.
+    #[inline(always)]
+    pub fn new(alloc: Global) -> Self
+        ensures { result.writes.items ≡ [] }
+    {
+        Plan {
+            writes: Vec::new(alloc),
+            deed: DeedBytes::joined(&[], &[]),
+            reply: Replies::Nothing,
+        }
+    }
+}
+
+/// Puts a write into a vector, in place of what stands there.
 #[inline(always)]
-pub fn only(mut room: Vec<SlotWrite>, write: SlotWrite) -> Result<Vec<SlotWrite>, NoMemory>
-    ensures { IfOk result (λ all. all.items ≡ write ∷ []) }
+pub fn put_only(writes: &mut Vec<SlotWrite>, write: SlotWrite) -> Result<(), NoMemory>
+    ensures { OnOk result (writes.new.items ≡ write ∷ []) }
 {
-    room.clear();
-    match room.push(write) {
-        Ok(()) => Ok(room),
+    writes.clear();
+    match writes.push(write) {
+        Ok(()) => Ok(()),
         Err(_) => Err(NoMemory),
     }
 }

@@ -3,7 +3,7 @@ ghost use Rattle.std.specs.Prelude.{◌≡◌, IfOk, length};
 ghost use Rattle.rq_level.specs.Meaning.{level_count};
 
 use rq_chain::{ChainLevel, TagLevel};
-use rq_level::{Level, Op, Outcome, PageSet, Plan, SlotWrite, Slots, Want};
+use rq_level::{Level, Op, Outcome, PageSet, Plan, Slots, Want};
 use rq_model::record::{Record, Slot};
 use rq_model::refusal::Refusal;
 use rq_model::txn::Lsn;
@@ -74,29 +74,29 @@ impl Level for StoreLevel {
     #[inline(always)]
     fn plan(
         &mut self,
-        room: Vec<SlotWrite>,
         op: &Op,
         given: &Slots,
         latched: &PageSet,
-    ) -> Result<Plan, Refusal> {
+        plan: &mut Plan,
+    ) -> Result<(), Refusal> {
         match self {
-            StoreLevel::Slots(level) => level.plan(room, op, given, latched),
-            StoreLevel::Chains(level) => level.plan(room, op, given, latched),
-            StoreLevel::Tags(level) => level.plan(room, op, given, latched),
+            StoreLevel::Slots(level) => level.plan(op, given, latched, plan),
+            StoreLevel::Chains(level) => level.plan(op, given, latched, plan),
+            StoreLevel::Tags(level) => level.plan(op, given, latched, plan),
         }
     }
 
     fn undo(
         &mut self,
-        room: Vec<SlotWrite>,
         record: &Record,
         given: &Slots,
         latched: &PageSet,
-    ) -> Result<Plan, Refusal> {
+        plan: &mut Plan,
+    ) -> Result<(), Refusal> {
         match self {
-            StoreLevel::Slots(level) => level.undo(room, record, given, latched),
-            StoreLevel::Chains(level) => level.undo(room, record, given, latched),
-            StoreLevel::Tags(level) => level.undo(room, record, given, latched),
+            StoreLevel::Slots(level) => level.undo(record, given, latched, plan),
+            StoreLevel::Chains(level) => level.undo(record, given, latched, plan),
+            StoreLevel::Tags(level) => level.undo(record, given, latched, plan),
         }
     }
 

@@ -1,10 +1,11 @@
 //! The level of single slots.
-ghost use Rattle.std.specs.Prelude.{◌+◌, ◌*◌, ◌<◌, ◌^◌, ◌/◌, ◌%◌, IfOk};
+ghost use Rattle.std.specs.Prelude.{◌+◌, ◌*◌, ◌<◌, ◌^◌, ◌/◌, ◌%◌, OnOk};
 ghost use Rattle.rq_level.specs.LevelState.{LevelState};
 ghost use Rattle.rq_level.specs.PagePlans.{IsWritePlan, TakesBack, is_slot_number};
+ghost use Rattle.rq_level.specs.Writes.{with_plan};
 
 use rq_level::{
-    Level, Op, Outcome, PageSet, Plan, Replies, SlotWrite, Slots, Want, only, redo_page,
+    Level, Op, Outcome, PageSet, Plan, Replies, SlotWrite, Slots, Want, put_only, redo_page,
 };
 use rq_model::record::{DeedBytes, Record, Slot};
 use rq_model::refusal::{Damage, NoMemory, Refusal};
@@ -45,21 +46,21 @@ impl Level for PageLevel {
 
     fn plan(
         &mut self,
-        _room: Vec<SlotWrite>,
         _op: &Op,
         _given: &Slots,
         _latched: &PageSet,
-    ) -> Result<Plan, Refusal> {
+        _plan: &mut Plan,
+    ) -> Result<(), Refusal> {
         Err(Refusal::Damaged(Damage::Page(0)))
     }
 
     fn undo(
         &mut self,
-        room: Vec<SlotWrite>,
         record: &Record,
         _given: &Slots,
         _latched: &PageSet,
-    ) -> Result<Plan, Refusal> {
+        plan: &mut Plan,
+    ) -> Result<(), Refusal> {
         match record {
             Record::PageOp {
                 page,
@@ -67,7 +68,7 @@ impl Level for PageLevel {
                 before,
                 after,
                 ..
-            } => take_back(room, *page, *slot, before, after),
+            } => take_back(plan, *page, *slot, before, after),
             _ => Err(Refusal::Damaged(Damage::Page(0))),
         }
     }
@@ -81,40 +82,36 @@ impl Level for PageLevel {
 
 // The plan of taking a slot write back.
 fn take_back(
-    room: Vec<SlotWrite>,
+    plan: &mut Plan,
     page: u32,
     slot: u8,
     before: &Slot,
     after: &Slot,
-) -> Result<Plan, Refusal>
-    ensures { (k : LevelState) → TakesBack k (is_slot_number slot) (page * 16 + slot) before.now after.now result k }
+) -> Result<(), Refusal>
+    ensures { (k : LevelState) → TakesBack k (is_slot_number slot) (page * 16 + slot) before.now after.now
+        (with_plan plan.new result) k }
 {
     if slot == 0 || slot > 15 {
         return Err(Refusal::Damaged(Damage::Page(page)));
     }
-    match one_write(room, Addr::new(page, slot), after, before) {
-        Ok(plan) => Ok(plan),
+    match put_one(plan, Addr::new(page, slot), after, before) {
+        Ok(()) => Ok(()),
         Err(NoMemory) => Err(Refusal::NoMemory),
     }
 }
 
 // The plan of one write.
-fn one_write(room: Vec<SlotWrite>, at: Addr, before: &Slot, after: &Slot) -> Result<Plan, NoMemory>
+fn put_one(plan: &mut Plan, at: Addr, before: &Slot, after: &Slot) -> Result<(), NoMemory>
     requires page { at / 16 < 2 ^ 32 }
     requires slot { 0 < at % 16 }
-    ensures { IfOk result (λ p. IsWritePlan at before.now after.now p) }
+    ensures { OnOk result (IsWritePlan at before.now after.now plan.new) }
 {
     let write = SlotWrite {
         at,
         before: *before,
         after: *after,
     };
-    match only(room, write) {
-        Ok(writes) => Ok(Plan {
-            writes,
-            deed: DeedBytes::new(&[]).unwrap(),
-            reply: Replies::Nothing,
-        }),
-        Err(_) => Err(NoMemory),
-    }
+    plan.deed = DeedBytes::joined(&[], &[]);
+    plan.reply = Replies::Nothing;
+    put_only(&mut plan.writes, write)
 }

@@ -25,7 +25,7 @@ use Rattle.rq_level.specs.Meaning.{kept_at, meaning_of}
 use Rattle.rq_level.specs.Ops.{Doing, Job, Tagging, doing_by, tagging_by}
 use Rattle.rq_level.specs.Ops.Doing.{Send, Receive, Close}
 use Rattle.rq_level.specs.TagPlans.{TagsFor, UndoesTag}
-use Rattle.rq_level.specs.Writes.{AreSlotWrites, write_of, writes_of}
+use Rattle.rq_level.specs.Writes.{AreSlotWrites, with_plan, write_of, writes_of}
 use Rattle.rq_level.proofs.EachLevel.{all_lawful}
 use Rattle.rq_txn.specs.Told.{IsTold}
 use Rattle.rq_planner.specs.Answered.{IsDeedFor, KnowsCells, deed_of, level_back}
@@ -179,15 +179,15 @@ module _ (z : Sizes) (images : List (List ℕ)) (levels : List LevelState) (know
   lawful_inverse _ given latched (Ok p) after lt some m = absurd (false≢true some)
 
 -- a level refuses for memory, a latch or damage alone
-pub plan_refused : (n : ℕ) (k : LevelState) (job : Job) (given : List Given) (latched : List ℕ) (answer : Result Plan Refusal) (after : LevelState) → (meaning_of n).plans k job given latched answer after → IfErr answer MayHaveNoPlan
-plan_refused n k job given latched (Ok p) after m = tt
-plan_refused n k job given latched (Err r) after m = ((all_lawful n).refuses k job given latched r after m).0
+pub plan_refused : {X : Type 0} (n : ℕ) (k : LevelState) (job : Job) (given : List Given) (latched : List ℕ) (p : Plan) (answer : Result X Refusal) (after : LevelState) → (meaning_of n).plans k job given latched (with_plan p answer) after → IfErr answer MayHaveNoPlan
+plan_refused n k job given latched p (Ok x) after m = tt
+plan_refused n k job given latched p (Err r) after m = ((all_lawful n).refuses k job given latched r after m).0
 
-pub undo_refused : (n : ℕ) (k : LevelState) (told : Record) (given : List Given) (latched : List ℕ) (answer : Result Plan Refusal) (after : LevelState) → (meaning_of n).undoes k told given latched answer after → IfErr answer MayHaveNoPlan
-undo_refused n k told given latched (Ok p) after m = tt
-undo_refused n k told given latched (Err r) after m = ((all_lawful n).refuses_undo k told given latched r after m).0
+pub undo_refused : {X : Type 0} (n : ℕ) (k : LevelState) (told : Record) (given : List Given) (latched : List ℕ) (p : Plan) (answer : Result X Refusal) (after : LevelState) → (meaning_of n).undoes k told given latched (with_plan p answer) after → IfErr answer MayHaveNoPlan
+undo_refused n k told given latched p (Ok x) after m = tt
+undo_refused n k told given latched p (Err r) after m = ((all_lawful n).refuses_undo k told given latched r after m).0
 
-pub may_refuse : (answer : Result Plan Refusal) → IfErr answer MayHaveNoPlan → IfErr answer MayRefuse
+pub may_refuse : {X : Type 0} (answer : Result X Refusal) → IfErr answer MayHaveNoPlan → IfErr answer MayRefuse
 may_refuse (Ok p) h = tt
 may_refuse (Err why.NoMemory) h = tt
 may_refuse (Err why.Latched) h = tt

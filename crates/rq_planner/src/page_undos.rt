@@ -2,7 +2,7 @@
 ghost use Rattle.std.specs.Prelude.{◌≡◌, ◌<◌, IfErr, IfOk, length};
 ghost use Rattle.rq_planner.specs.PageUndos.{NotPutBackFor, PutsBackWrite};
 
-use rq_level::{Level, Levels, PageSet, SlotWrite, Slots};
+use rq_level::{Level, Levels, PageSet, Plan, SlotWrite, Slots};
 use rq_model::record::Record;
 use rq_model::refusal::Refusal;
 use std::alloc::Global;
@@ -23,8 +23,9 @@ pub(crate) fn undo_write<B: Level>(
 {
     let given = Slots::new(alloc);
     let latched = PageSet::new(alloc);
-    match levels.undo(Vec::new(alloc), 0, record, &given, &latched) {
-        Ok(plan) => Ok(plan.writes[0]),
+    let mut plan = Plan::new(alloc);
+    match levels.undo(0, record, &given, &latched, &mut plan) {
+        Ok(()) => Ok(plan.writes[0]),
         Err(refusal) => Err(refusal),
     }
 }

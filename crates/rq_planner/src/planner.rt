@@ -5,7 +5,7 @@ ghost use Rattle.rq_model.specs.Deeds.{deed_by};
 ghost use Rattle.rq_model.specs.Vocabulary.{is_some};
 ghost use Rattle.rq_views.specs.Stored.{IsStoreSlot, slot_at, slots_in};
 ghost use Rattle.rq_level.specs.Asked.{deed_back, job_back};
-ghost use Rattle.rq_level.specs.Writes.{AreSlotWrites, answer_of};
+ghost use Rattle.rq_level.specs.Writes.{AreSlotWrites, answer_of, with_plan};
 ghost use Rattle.rq_level.specs.Meaning.{AppliesOnce, AreTold, redo_of};
 ghost use Rattle.rq_pool.specs.Fetching.{HasReadFor, IsAtHand, IsUnread, ReadsTruly};
 ghost use Rattle.rq_pool.specs.Held.{IsFramed};
@@ -21,7 +21,7 @@ ghost use Rattle.rq_planner.specs.PageUndos.{NotPutBackFor, PutsBackWrite};
 
 use crate::handed::StoreLevels;
 use crate::page_undos::undo_write;
-use crate::planning::{plan, plan_inverse};
+use crate::planning;
 use crate::telling::tell_store;
 use rq_disk::PageDevice;
 use rq_level::{Level, Levels, Op, Outcome, Plan, SlotWrite, Slots};
@@ -98,8 +98,8 @@ impl<B: Level> Planner<B> {
         self.levels.noted(at, pages.slot(at).unwrap());
     }
 
-    /// The plan of an operation by its level, from the slots as they are. Its writes are put into `room`. What it chose is
-    /// given back. Whatever the device gave, a plan tells what was asked for, and writes on pages that nobody has latched.
+    /// Has an operation planned by its level, from the slots as they are. The plan is put into `plan`. What it chose is given
+    /// back. Whatever the device gave, a plan tells what was asked for, and writes on pages that nobody has latched.
     ///
     /// # Errors
     /// `Latched`, exactly where it needs a page that an operation under way has latched, or a cell that only such pages have free;
@@ -107,33 +107,33 @@ impl<B: Level> Planner<B> {
     /// may not be done, or where the device has lied.
     pub fn plan<P: PageDevice>(
         &mut self,
-        room: Vec<SlotWrite>,
         pages: &mut Pages<P>,
         transactions: &Transactions,
         op: &Op,
-    ) -> Result<Plan, Refusal>
+        plan: &mut Plan,
+    ) -> Result<(), Refusal>
         requires known { KnowsCells pages.old.sizes pages.old.images self.old }
         requires level { op.now.level < length self.old }
         requires forward { op.now.undo ≡ false }
         ensures same { self.new ≡ self.old }
         ensures read { HasReadFor P.PageDevice pages.old result pages.new }
-        ensures lawful { IfOk result (IsLawfulFor pages.old.sizes op.now) }
-        ensures free { IfOk result (λ p. AreUnlatched (known_from pages.old transactions.now) p.writes.items) }
+        ensures lawful { IfOk (with_plan plan.new result) (IsLawfulFor pages.old.sizes op.now) }
+        ensures free { IfOk (with_plan plan.new result) (λ p. AreUnlatched (known_from pages.old transactions.now) p.writes.items) }
         ensures latched { (d : Task) → task_by op.now.level op.now.bytes ≡ Some d
-            → IsByOwnLatch pages.old.sizes transactions.now d result }
+            → IsByOwnLatch pages.old.sizes transactions.now d (with_plan plan.new result) }
         ensures causes { IfErr result MayRefuse }
         ensures answered { ReadsTruly P.PageDevice pages.old result pages.new
-            → IsAnsweredFor (known_from pages.old transactions.now) self.old op.now result }
+            → IsAnsweredFor (known_from pages.old transactions.now) self.old op.now (with_plan plan.new result) }
         ensures planned { ReadsTruly P.PageDevice pages.old result pages.new
-            → IsPlannedBy (known_from pages.old transactions.now) op.now result }
+            → IsPlannedBy (known_from pages.old transactions.now) op.now (with_plan plan.new result) }
     {
-        plan(
-            room,
+        planning::plan(
             pages,
             transactions,
             &mut self.levels,
             op,
             &mut self.slots,
+            plan,
         )
     }
 
@@ -145,36 +145,36 @@ impl<B: Level> Planner<B> {
     pub fn plan_inverse<P: PageDevice>(
         &mut self,
         alloc: Global,
-        room: Vec<SlotWrite>,
         pages: &mut Pages<P>,
         transactions: &Transactions,
         told: &Record,
-    ) -> Result<Plan, Refusal>
+        plan: &mut Plan,
+    ) -> Result<(), Refusal>
         requires known { KnowsCells pages.old.sizes pages.old.images self.old }
         requires level { level_back told.now < length self.old }
         ensures same { self.new ≡ self.old }
         ensures read { HasReadFor P.PageDevice pages.old result pages.new }
-        ensures lawful { is_some (deed_back told.now) ≡ true → IfOk result (IsLawfulInverse pages.old.sizes) }
+        ensures lawful { is_some (deed_back told.now) ≡ true → IfOk (with_plan plan.new result) (IsLawfulInverse pages.old.sizes) }
         ensures few { (d : Deed) → deed_back told.now ≡ Some d
-            → IfOk result (λ p. length p.writes.items ≤ most_writes_back d) }
+            → IfOk (with_plan plan.new result) (λ p. length p.writes.items ≤ most_writes_back d) }
         ensures free { is_some (deed_back told.now) ≡ true
-            → IfOk result (λ p. AreUnlatched (known_from pages.old transactions.now) p.writes.items) }
+            → IfOk (with_plan plan.new result) (λ p. AreUnlatched (known_from pages.old transactions.now) p.writes.items) }
         ensures causes { IfErr result MayRefuse }
         ensures answered { ReadsTruly P.PageDevice pages.old result pages.new
-            → IsAnsweredBack (known_from pages.old transactions.now) self.old told.now result }
+            → IsAnsweredBack (known_from pages.old transactions.now) self.old told.now (with_plan plan.new result) }
         ensures planned { ReadsTruly P.PageDevice pages.old result pages.new
-            → IsPlannedBy (known_from pages.old transactions.now) (job_back told.now) result }
+            → IsPlannedBy (known_from pages.old transactions.now) (job_back told.now) (with_plan plan.new result) }
         ensures judged { ReadsTruly P.PageDevice pages.old result pages.new → (d : Deed) → deed_back told.now ≡ Some d
-            → IsJudgedBack pages.old.sizes (slots_in pages.old.sizes pages.old.images) d result }
+            → IsJudgedBack pages.old.sizes (slots_in pages.old.sizes pages.old.images) d (with_plan plan.new result) }
     {
-        plan_inverse(
+        planning::plan_inverse(
             alloc,
-            room,
             pages,
             transactions,
             &mut self.levels,
             told,
             &mut self.slots,
+            plan,
         )
     }
 
@@ -205,8 +205,9 @@ impl<B: Level> Planner<B> {
             return Err(Refusal::Damaged(Damage::Page(0)));
         }
         let nobody = Transactions::new(alloc);
-        match self.plan_inverse(alloc, Vec::new(alloc), pages, &nobody, told) {
-            Ok(plan) => Ok(plan.writes),
+        let mut plan = Plan::new(alloc);
+        match self.plan_inverse(alloc, pages, &nobody, told, &mut plan) {
+            Ok(()) => Ok(plan.writes),
             Err(refusal) => Err(refused_alone(refusal)),
         }
     }

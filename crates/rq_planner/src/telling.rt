@@ -5,6 +5,7 @@ ghost use Rattle.rq_page.specs.Sizes.{IsCellAddress, cell_at, client_slot_at, di
 ghost use Rattle.rq_views.specs.InStore.{IsClientAddress};
 ghost use Rattle.rq_views.specs.Stored.{IsStoreSlot, slot_at};
 ghost use Rattle.rq_level.specs.Meaning.{AreTold, kept_at, meaning_of};
+ghost use Rattle.rq_level.specs.Writes.{with_plan};
 ghost use Rattle.rq_pool.specs.Fetching.{HasReadFor, IsUnread};
 ghost use Rattle.rq_planner.specs.Answered.{IsFreeCell, IsOverFree, KnowsBelow, KnowsCells, MayBeTold};
 ghost use Rattle.rq_planner.specs.Handed.{AreForStores};
@@ -22,14 +23,15 @@ use rq_pool::Pages;
 pub(crate) fn give_back<P: PageDevice, B: Level>(
     pages: &Pages<P>,
     levels: &mut Levels<B>,
-    answer: &Result<Plan, Refusal>,
+    answer: &Result<(), Refusal>,
+    plan: &Plan,
 )
-    ensures planned { IfOk answer.now (λ p. MayBeTold pages.now.sizes pages.now.images (slice_get p.writes.items 0)
+    ensures planned { IfOk (with_plan plan.now answer.now) (λ p. MayBeTold pages.now.sizes pages.now.images (slice_get p.writes.items 0)
         levels.old levels.new) }
-    ensures refused { IfErr answer.now (λ _. levels.new ≡ levels.old) }
+    ensures refused { IfErr (with_plan plan.now answer.now) (λ _. levels.new ≡ levels.old) }
 {
     match answer {
-        Ok(plan) => unreserve(pages, levels, &plan.writes),
+        Ok(()) => unreserve(pages, levels, &plan.writes),
         Err(_) => {}
     }
 }

@@ -1,5 +1,6 @@
 use Rattle.std.proofs.Common.{refl, ◌≡◌, ℕ, slice_set, subst, arith}
 use Rattle.rq_level.specs.Meaning.{kept_at, meaning_of}
+use Rattle.rq_level.specs.Writes.{with_plan}
 use Rattle.rq_pool.proofs.Fetched.{still_read}
 use Rattle.rq_planner.specs.Answered.{MayPlan, wants_of}
 use Rattle.rq_planner.specs.Asked.{known_from}
@@ -24,21 +25,21 @@ returns-in-Ok-clause-same g c =
     let pages = c.gather.new.pages in
     plan_same old mid c.args.op.now.level (subst (λ (n : ℕ). mid ≡ slice_set old n (kept_at mid n)) c.level.ensures c.plan-answer.ensures.others) pages.sizes pages.images
     (knows_read g.P.PageDevice c.args.pages.now pages old c.gather.ensures.read.read c.requires.known) c.requires.level c.give_back.new.levels
-    c.args.op.now c.gather.new.slots c.latched.result.now.pages c.plan-answer.result
-    (subst (λ (n : ℕ). (meaning_of n).plans (kept_at old n) c.args.op.now c.gather.new.slots c.latched.result.now.pages c.plan-answer.result (kept_at mid n)) c.level.ensures c.plan-answer.ensures.answer)
+    c.args.op.now c.gather.new.slots c.latched.result.now.pages (with_plan c.plan-answer.new.plan c.plan-answer.result)
+    (subst (λ (n : ℕ). (meaning_of n).plans (kept_at old n) c.args.op.now c.gather.new.slots c.latched.result.now.pages (with_plan c.plan-answer.new.plan c.plan-answer.result) (kept_at mid n)) c.level.ensures c.plan-answer.ensures.answer)
     c.give_back.ensures.planned c.give_back.ensures.refused
 
 pub returns-in-Ok-clause-read : goal.returns-in-Ok-clause-read
 returns-in-Ok-clause-read g c =
     reads_answered g.P.PageDevice c.plan-answer.result c.args.pages.now c.gather.new.pages c.gather.ensures.read.read c.in-Ok.ensures.read.counted
-    (plan_refused c.level.result (kept_at c.args.levels.now c.level.result) c.args.op.now c.gather.new.slots c.latched.result.now.pages c.plan-answer.result _ c.plan-answer.ensures.answer)
+    (plan_refused c.level.result (kept_at c.args.levels.now c.level.result) c.args.op.now c.gather.new.slots c.latched.result.now.pages c.plan-answer.new.plan c.plan-answer.result _ c.plan-answer.ensures.answer)
 
 pub returns-in-Ok-clause-lawful : goal.returns-in-Ok-clause-lawful
 returns-in-Ok-clause-lawful g c =
     let old = c.args.levels.now in
     let mid = c.plan-answer.new.self in
-    lawful_plan c.args.pages.now.sizes c.args.pages.now.images old c.requires.known c.args.op.now c.gather.new.slots c.latched.result.now.pages c.plan-answer.result (kept_at mid c.args.op.now.level) c.requires.level
-    (subst (λ (n : ℕ). (meaning_of n).plans (kept_at old n) c.args.op.now c.gather.new.slots c.latched.result.now.pages c.plan-answer.result (kept_at mid n)) c.level.ensures c.plan-answer.ensures.answer)
+    lawful_plan c.args.pages.now.sizes c.args.pages.now.images old c.requires.known c.args.op.now c.gather.new.slots c.latched.result.now.pages (with_plan c.plan-answer.new.plan c.plan-answer.result) (kept_at mid c.args.op.now.level) c.requires.level
+    (subst (λ (n : ℕ). (meaning_of n).plans (kept_at old n) c.args.op.now c.gather.new.slots c.latched.result.now.pages (with_plan c.plan-answer.new.plan c.plan-answer.result) (kept_at mid n)) c.level.ensures c.plan-answer.ensures.answer)
 
 pub returns-in-Ok-clause-free : goal.returns-in-Ok-clause-free
 returns-in-Ok-clause-free g c =
@@ -46,21 +47,21 @@ returns-in-Ok-clause-free g c =
     let old = c.args.levels.now in
     let mid = c.plan-answer.new.self in
     plan_unlatched c.args.pages.now.sizes c.args.pages.now.images c.args.transactions.now n (kept_at old n) c.gather.new.slots c.latched.result.now.pages c.latched.ensures c.in-Ok.ensures.free
-    (of_store c.args.pages.now.sizes c.args.pages.now.images old n c.gather.new.slots c.requires.known c.requires.level c.in-Ok.ensures.given) c.args.op.now c.plan-answer.result (kept_at mid n)
-    (subst (λ (i : ℕ). (meaning_of i).plans (kept_at old i) c.args.op.now c.gather.new.slots c.latched.result.now.pages c.plan-answer.result (kept_at mid i)) c.level.ensures c.plan-answer.ensures.answer)
+    (of_store c.args.pages.now.sizes c.args.pages.now.images old n c.gather.new.slots c.requires.known c.requires.level c.in-Ok.ensures.given) c.args.op.now (with_plan c.plan-answer.new.plan c.plan-answer.result) (kept_at mid n)
+    (subst (λ (i : ℕ). (meaning_of i).plans (kept_at old i) c.args.op.now c.gather.new.slots c.latched.result.now.pages (with_plan c.plan-answer.new.plan c.plan-answer.result) (kept_at mid i)) c.level.ensures c.plan-answer.ensures.answer)
 
 pub returns-in-Ok-clause-latched : goal.returns-in-Ok-clause-latched
 returns-in-Ok-clause-latched g c forward =
     let n = c.args.op.now.level in
     let old = c.args.levels.now in
     let mid = c.plan-answer.new.self in
-    planned_by_latch c.args.pages.now.sizes c.args.pages.now.images c.args.transactions.now old c.requires.known c.args.op.now forward c.gather.new.slots c.latched.result.now.pages c.plan-answer.result (kept_at mid n) c.in-Ok.ensures.free.unlatched
-    (c.in-Ok.ensures.none, subst (λ (i : ℕ). (meaning_of i).plans (kept_at old i) c.args.op.now c.gather.new.slots c.latched.result.now.pages c.plan-answer.result (kept_at mid i)) c.level.ensures c.plan-answer.ensures.answer)
+    planned_by_latch c.args.pages.now.sizes c.args.pages.now.images c.args.transactions.now old c.requires.known c.args.op.now forward c.gather.new.slots c.latched.result.now.pages (with_plan c.plan-answer.new.plan c.plan-answer.result) (kept_at mid n) c.in-Ok.ensures.free.unlatched
+    (c.in-Ok.ensures.none, subst (λ (i : ℕ). (meaning_of i).plans (kept_at old i) c.args.op.now c.gather.new.slots c.latched.result.now.pages (with_plan c.plan-answer.new.plan c.plan-answer.result) (kept_at mid i)) c.level.ensures c.plan-answer.ensures.answer)
 
 pub returns-in-Ok-clause-causes : goal.returns-in-Ok-clause-causes
 returns-in-Ok-clause-causes g c =
     may_refuse c.plan-answer.result
-    (plan_refused c.level.result (kept_at c.args.levels.now c.level.result) c.args.op.now c.gather.new.slots c.latched.result.now.pages c.plan-answer.result _ c.plan-answer.ensures.answer)
+    (plan_refused c.level.result (kept_at c.args.levels.now c.level.result) c.args.op.now c.gather.new.slots c.latched.result.now.pages c.plan-answer.new.plan c.plan-answer.result _ c.plan-answer.ensures.answer)
 
 pub returns-in-Ok-clause-answered : goal.returns-in-Ok-clause-answered
 returns-in-Ok-clause-answered g c truly =
@@ -68,12 +69,12 @@ returns-in-Ok-clause-answered g c truly =
     let n = c.args.op.now.level in
     let old = c.args.levels.now in
     let mid = c.plan-answer.new.self in
-    answered s (wants_of old n) c.args.op.now (MayPlan s (meaning_of n) (kept_at old n) c.args.op.now) c.gather.new.slots c.plan-answer.result
+    answered s (wants_of old n) c.args.op.now (MayPlan s (meaning_of n) (kept_at old n) c.args.op.now) c.gather.new.slots (with_plan c.plan-answer.new.plan c.plan-answer.result)
     (c.in-Ok.ensures.all (truly_done g.P.PageDevice _ c.args.pages.now c.gather.new.pages truly.0)) c.in-Ok.ensures.none (record {
       latched = c.latched.result.now.pages;
       on = c.latched.ensures;
       after = kept_at mid n;
-      plans = subst (λ (i : ℕ). (meaning_of i).plans (kept_at old i) c.args.op.now c.gather.new.slots c.latched.result.now.pages c.plan-answer.result (kept_at mid i)) c.level.ensures c.plan-answer.ensures.answer;
+      plans = subst (λ (i : ℕ). (meaning_of i).plans (kept_at old i) c.args.op.now c.gather.new.slots c.latched.result.now.pages (with_plan c.plan-answer.new.plan c.plan-answer.result) (kept_at mid i)) c.level.ensures c.plan-answer.ensures.answer;
     })
 
 pub returns-in-Err-clause-read : goal.returns-in-Err-clause-read

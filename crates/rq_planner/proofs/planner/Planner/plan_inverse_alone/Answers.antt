@@ -28,18 +28,18 @@ returns-in-Ok-clause-plan g c truly =
     let q = slots_in z c.args.pages.now.images in
     let told = c.args.told.now in
     let d = some_is (deed_back told) (sym c.reads_back.ensures.reads ∙ c.if-not-reads_back.false) in
-    let done = truly_done g.P.PageDevice c.in-Ok.plan c.args.pages.now c.plan_inverse.new.pages truly.0 in
+    let done = truly_done g.P.PageDevice _ c.args.pages.now c.plan_inverse.new.pages truly.0 in
     let can = (c.in-Ok.ensures.judged done d.0 d.1).can in
-    taken_back z c.args.pages.now.images c.new-nobody.result c.new-nobody.ensures (deed_back told) d.0 c.in-Ok.plan d.1
+    taken_back z c.args.pages.now.images c.new-nobody.result c.new-nobody.ensures (deed_back told) d.0 c.plan_inverse.new.plan d.1
     (c.in-Ok.ensures.planned done (Undo d.0) (asks_back told d.0 d.1) (can_below z q d.0 can)).plan
     (c.in-Ok.ensures.lawful (sym c.reads_back.ensures.reads ∙ c.if-not-reads_back.false)).slots can
 
 pub returns-in-Ok-clause-answered : goal.returns-in-Ok-clause-answered
 returns-in-Ok-clause-answered g c truly = record {
-  plan = c.in-Ok.plan;
+  plan = c.plan_inverse.new.plan;
   are = refl;
-  answered = subst (λ (rows : List Row). IsAnsweredBack (known c.args.pages.now.sizes c.args.pages.now.images rows) c.args.self.now c.args.told.now (Ok c.in-Ok.plan)) c.new-nobody.ensures
-      (c.in-Ok.ensures.answered (truly_done g.P.PageDevice c.in-Ok.plan c.args.pages.now c.plan_inverse.new.pages truly.0));
+  answered = subst (λ (rows : List Row). IsAnsweredBack (known c.args.pages.now.sizes c.args.pages.now.images rows) c.args.self.now c.args.told.now (Ok c.plan_inverse.new.plan)) c.new-nobody.ensures
+      (c.in-Ok.ensures.answered (truly_done g.P.PageDevice _ c.args.pages.now c.plan_inverse.new.pages truly.0));
 }
 
 pub returns-clause-read : goal.returns-clause-read

@@ -1,6 +1,6 @@
 use Rattle.std.proofs.Common.{arith}
 use Rattle.rq_chain.proofs.Planned.{is_marked, differs}
-use Rattle.rq_chain.proofs.level.closed_writes.Goals as goal
+use Rattle.rq_chain.proofs.level.put_closed.Goals as goal
 
 pub returns-in-Ok-clause-ok : goal.returns-in-Ok-clause-ok
 returns-in-Ok-clause-ok c p same =
