@@ -6,14 +6,15 @@ use Rattle.rq_model.specs.declared.refusal.Damage.TheVariants as damage
 use Rattle.rq_model.specs.declared.refusal.Refusal.{Refusal}
 use Rattle.rq_model.specs.declared.refusal.Refusal.TheVariants as why
 use Rattle.rq_disk.specs.Device.{PageAsk}
+use Rattle.rq_disk.specs.Device.PageAsk.{Writes}
 use Rattle.rq_disk.specs.declared.device.PageDevice.{Ghosts}
 use Rattle.rq_page.specs.Sizes.{Sizes, page_count}
-use Rattle.rq_pool.specs.Fetching.{HasFailed, NotFetched}
-use Rattle.rq_pool.specs.Fixing.{AreEven, AreHadTo, AreHeld, AreOnWay, AreSetTo, IsBrought, IsHad, NotBrought}
+use Rattle.rq_pool.specs.Fetching.{HasFailed, HasOutside, NotFetched}
+use Rattle.rq_pool.specs.Fixing.{AreEven, AreHadTo, AreHeld, AreOnWay, AreSetTo, IsBrought, IsHad, IsHeldStill, NotBrought}
 use Rattle.rq_pool.specs.Held.{Held, IsFixed, IsFramed, fixed_at, nothing_held, page_at}
 use Rattle.rq_pool.specs.KeptUp.{IsForced, IsKeptUp, IsStill}
 use Rattle.rq_pool.specs.Pooled.{Pooled, image_at, is_changed}
-use Rattle.rq_pool.specs.Want.{AreOfStore, CannotBeHad, NoneFixed, NotFixed, StayFixed, among, distinct, framed_in, missing, spare_for}
+use Rattle.rq_pool.specs.Want.{AreFramed, AreOfStore, CannotBeHad, NoneFixed, NotFixed, StayFixed, among, distinct, framed_in, missing, spare_for}
 use Rattle.rq_pool.proofs.Fetched.{failed_then}
 use Rattle.rq_pool.proofs.Holding.{framed_then, stay_first, stay_on, stay_set, still_kept}
 use Rattle.rq_pool.proofs.KeptUp.{kept_still, kept_then}
@@ -27,8 +28,20 @@ module _ {P : Type 0} (g : Ghosts P) (forced : ℕ) where
   -- why a page was not brought, where it was not read
   pub not_brought : (n : ℕ) (e : Refusal) (old mid new : Pooled P) → (IsFramed old.frames n → ⊥) → g.faults mid.device ≡ g.faults old.device → NotFetched g n e mid.device new.device → NotBrought g forced n e old new
   not_brought n why.DiskRead old mid new outside same failed = (outside, failed_then g mid.device old.device new.device same failed)
-  not_brought n (why.Damaged (damage.Page m)) old mid new outside same lied = (lied.0, lied.1, lied.2 ∙ same)
+  not_brought n (why.Damaged (damage.Page m)) old mid new outside same lied = (outside, lied.0, lied.1, lied.2 ∙ same)
   not_brought n _ old mid new outside same not = absurd not
+
+  -- or where another was not written out for it
+  pub not_made_way : (n : ℕ) (e : Refusal) (old new : Pooled P) → (IsFramed old.frames n → ⊥) → (e ≡ why.DiskWrite) × ((other : ℕ) × (image : List ℕ) × IsForced g forced new other image × HasFailed g (Writes other image) old.device new.device) → NotBrought g forced n e old new
+  not_made_way n e old new outside f = subst (λ (r : Refusal). NotBrought g forced n r old new) (sym f.0) (outside, f.1.0, f.1.1, f.1.2, f.1.3)
+
+  -- it stood in no frame
+  not_framed : (n : ℕ) (e : Refusal) (old new : Pooled P) → NotBrought g forced n e old new → IsFramed old.frames n → ⊥
+  not_framed n why.PoolFull old new full = full.0.outside
+  not_framed n why.DiskRead old new fails = fails.0
+  not_framed n why.DiskWrite old new fails = fails.0
+  not_framed n (why.Damaged (damage.Page m)) old new lied = lied.0
+  not_framed n _ old new not = absurd not
 
   -- nothing happened yet
   pub way_first : (old : Pooled P) (ps : List ℕ) → AreOnWay g forced old old ps
@@ -47,6 +60,7 @@ module _ {P : Type 0} (g : Ghosts P) (forced : ℕ) where
     had = λ j none. absurd (omega (arith, none));
     stand = λ q _ f. f;
     faults = refl;
+    stood = λ _. refl;
   }
 
   module _ (old mid new : Pooled P) (ps : List ℕ) (k : ℕ) (so_far : AreHadTo g forced old mid ps k) (lt : k < length ps) where
@@ -77,6 +91,7 @@ module _ {P : Type 0} (g : Ghosts P) (forced : ℕ) where
       ];
       stand = so_far.stand;
       faults = so_far.faults;
+      stood = so_far.stood;
     })
 
     -- or it took the place of another
@@ -114,6 +129,7 @@ module _ {P : Type 0} (g : Ghosts P) (forced : ℕ) where
       ];
       stand = λ q wanted stood. stays q wanted (so_far.stand q wanted stood);
       faults = faults ∙ so_far.faults;
+      stood = λ all. absurd (f.outside (so_far.stand n one (all n one)));
     } where
       seat : Held
       seat = record { page = n; fixed = true }
@@ -138,6 +154,10 @@ module _ {P : Type 0} (g : Ghosts P) (forced : ℕ) where
     pub had_next : IsHad forced mid n new → ((p : ℕ) → p ≢ n → image_at new.images p ≡ image_at mid.images p) → IsKeptUp g forced mid new → g.faults new.device ≡ g.faults mid.device → AreHadTo g forced old new ps (k + 1)
     had_next had others kept faults = ⊎_elim (λ (t : IsFramed mid.frames n × (new ≡ mid)). had_there t.0 t.1) (λ (f : IsBrought mid.images forced mid.frames n new.frames). had_brought f others kept faults) had
 
+    -- the next one stood in no frame from the first
+    abbrev is_outside : AreOfStore old.sizes ps → (IsFramed mid.frames n → ⊥) → HasOutside old
+    is_outside of_store outside = record { page = n; behind = (of_store k lt).0; within = (of_store k lt).1; outside = λ stood. outside (so_far.stand n one stood) }
+
     -- why they cannot be fixed, where the next one cannot be brought
     pub had_not : (e : Refusal) → AreOfStore old.sizes ps → NotBrought g forced n e mid new → NotFixed g forced ps e old new
     had_not why.PoolFull of_store full =
@@ -145,12 +165,14 @@ module _ {P : Type 0} (g : Ghosts P) (forced : ℕ) where
         let some : 1 ≤ missing mid.frames ps = lacks_one mid.frames n (distinct ps) (to_distinct ps n one) (unframed mid.frames n full.0.outside) in
         let even : AreEven old forced ps mid = so_far.even in
         (omega (arith, none, some, even), full.1 ∙ so_far.faults)
-    had_not why.DiskRead of_store fails =
-        let there = of_store k lt in
-        (record { page = n; behind = there.0; within = there.1; outside = λ stood. fails.0 (so_far.stand n one stood) }, one, failed_then g mid.device old.device new.device so_far.faults fails.1)
-    had_not why.DiskWrite of_store fails = (fails.0, fails.1, fails.2, failed_then g mid.device old.device new.device so_far.faults fails.3)
-    had_not (why.Damaged (damage.Page m)) of_store lied = (ap (among ps) lied.0 ∙ one, lied.1, lied.2 ∙ so_far.faults)
+    had_not why.DiskRead of_store fails = (is_outside of_store fails.0, one, failed_then g mid.device old.device new.device so_far.faults fails.1)
+    had_not why.DiskWrite of_store fails = (fails.1, fails.2, fails.3, failed_then g mid.device old.device new.device so_far.faults fails.4, is_outside of_store fails.0, one)
+    had_not (why.Damaged (damage.Page m)) of_store lied = (ap (among ps) lied.1 ∙ one, lied.2, lied.3 ∙ so_far.faults)
     had_not _ of_store not = absurd not
+
+    -- and one of them stood in no frame
+    pub had_outside : (e : Refusal) → NotBrought g forced n e mid new → AreFramed old.frames ps → ⊥
+    had_outside e not all = not_framed n e mid new not (so_far.stand n one (all n one))
 
   -- all of them are had
   pub had_framed : (old new : Pooled P) (ps : List ℕ) → AreHadTo g forced old new ps (length ps) → (q : ℕ) → among ps q ≡ true → IsFramed new.frames q
@@ -178,18 +200,28 @@ module _ {P : Type 0} (g : Ghosts P) (forced : ℕ) where
     cannot_before : CannotBeHad mid forced ps → CannotBeHad old forced ps
     cannot_before c = let e : AreEven old forced ps mid = held.even forced in omega (arith, e, c)
 
+    abbrev outside_before : HasOutside mid → HasOutside old
+    outside_before out = record {
+      page = out.page;
+      behind = out.behind;
+      within = subst (λ (z : Sizes). out.page < page_count z) held.still.sizes out.within;
+      outside = λ stood. out.outside (framed_then true old mid ps (length ps) out.page held stood);
+    }
+
     -- why they were not fixed, by the pool as it was before
     pub not_fixed : (e : Refusal) (new : Pooled P) → NotFixed g forced ps e mid new → NotFixed g forced ps e old new
     not_fixed why.PoolFull new full = (cannot_before full.0, full.1 ∙ ap g.faults held.still.device)
-    not_fixed why.DiskRead new fails =
-        let out = fails.0 in (
-          record { page = out.page; behind = out.behind; within = subst (λ (z : Sizes). out.page < page_count z) held.still.sizes out.within; outside = λ stood. out.outside (framed_then true old mid ps (length ps) out.page held stood) },
-          fails.1,
-          failed_then g mid.device old.device new.device (ap g.faults held.still.device) fails.2,
-        )
-    not_fixed why.DiskWrite new fails = (fails.0, fails.1, fails.2, failed_then g mid.device old.device new.device (ap g.faults held.still.device) fails.3)
+    not_fixed why.DiskRead new fails = (outside_before fails.0, fails.1, failed_then g mid.device old.device new.device (ap g.faults held.still.device) fails.2)
+    not_fixed why.DiskWrite new fails = (fails.0, fails.1, fails.2, failed_then g mid.device old.device new.device (ap g.faults held.still.device) fails.3, outside_before fails.4, fails.5)
     not_fixed (why.Damaged (damage.Page n)) new lied = (lied.0, lied.1, lied.2 ∙ ap g.faults held.still.device)
     not_fixed _ new not = absurd not
+
+    pub framed_held : AreFramed old.frames ps → AreFramed mid.frames ps
+    framed_held all q wanted = framed_then true old mid ps (length ps) q held (all q wanted)
+
+    -- where all of them stand in frames, that is all
+    pub stood_still : (new : Pooled P) → new ≡ mid → IsHeldStill old new
+    stood_still new same = subst (λ (s : Pooled P). IsHeldStill old s) (sym same) (record { still = held.still; same = held.same })
 
     pub way_before : (new : Pooled P) → AreOnWay g forced mid new ps → AreOnWay g forced old new ps
     way_before new way = record {
@@ -225,6 +257,6 @@ module _ {P : Type 0} (g : Ghosts P) (forced : ℕ) where
     pub not_let : (e : Refusal) → NotFixed g forced ps e old mid → NotFixed g forced ps e old new
     not_let why.PoolFull full = (full.0, ap g.faults still.device ∙ full.1)
     not_let why.DiskRead fails = (fails.0, fails.1, failed_on mid.device old.device new.device still.device fails.2)
-    not_let why.DiskWrite fails = (fails.0, fails.1, forced_let fails.0 fails.1 fails.2, failed_on mid.device old.device new.device still.device fails.3)
+    not_let why.DiskWrite fails = (fails.0, fails.1, forced_let fails.0 fails.1 fails.2, failed_on mid.device old.device new.device still.device fails.3, fails.4, fails.5)
     not_let (why.Damaged (damage.Page n)) lied = (lied.0, subst (λ (d : P). g.honest d → ⊥) (sym still.device) lied.1, ap g.faults still.device ∙ lied.2)
     not_let _ not = absurd not

@@ -11,7 +11,7 @@ use Rattle.rq_pool.specs.Fetching.{HasFailed}
 use Rattle.rq_pool.specs.Held.{Held, IsFramed, IsSetAt, fixed_at, page_at}
 use Rattle.rq_pool.specs.KeptUp.{IsForced, IsKeptUp, IsStill}
 use Rattle.rq_pool.specs.Pooled.{Pooled, image_at}
-use Rattle.rq_pool.specs.Want.{StayFixed, among, framed_in, missing, spare_for}
+use Rattle.rq_pool.specs.Want.{AreFramed, StayFixed, among, framed_in, missing, spare_for}
 
 -- ---- one page
 
@@ -45,10 +45,10 @@ pub record IsFull {P : Type 0} (old : Pooled P) (forced page : ℕ) : Type 0 whe
 abbrev pub NotBrought : {P : Type 0} → Ghosts P → ℕ → ℕ → Refusal → Pooled P → Pooled P → Type 0
 NotBrought g forced page why.PoolFull old new = IsFull old forced page × (g.faults new.device ≡ g.faults old.device)
 NotBrought g forced page why.DiskRead old new = (IsFramed old.frames page → ⊥) × HasFailed g (Reads page) old.device new.device
-NotBrought g forced page why.DiskWrite old new = (other : ℕ) × (image : List ℕ) × IsForced g forced new other image
-    × HasFailed g (Writes other image) old.device new.device
-NotBrought g forced page (why.Damaged (damage.Page n)) old new = (n ≡ page) × (g.honest new.device → ⊥)
-    × (g.faults new.device ≡ g.faults old.device)
+NotBrought g forced page why.DiskWrite old new = (IsFramed old.frames page → ⊥) × (other : ℕ) × (image : List ℕ)
+    × IsForced g forced new other image × HasFailed g (Writes other image) old.device new.device
+NotBrought g forced page (why.Damaged (damage.Page n)) old new = (IsFramed old.frames page → ⊥) × (n ≡ page)
+    × (g.honest new.device → ⊥) × (g.faults new.device ≡ g.faults old.device)
 NotBrought g forced page _ old new = ⊥
 
 -- ---- all of them
@@ -88,6 +88,12 @@ pub record AreHadTo {P : Type 0} (g : Ghosts P) (forced : ℕ) (old new : Pooled
   pub had : (j : ℕ) → j < k → framed_in new.frames (slice_index_or ps j 0) ≡ true
   pub stand : (q : ℕ) → among ps q ≡ true → IsFramed old.frames q → IsFramed new.frames q
   pub faults : g.faults new.device ≡ g.faults old.device
+  pub stood : AreFramed old.frames ps → new ≡ old
+
+-- nothing happened but that pages are fixed, each in the frame in which it stood
+pub record IsHeldStill {P : Type 0} (old new : Pooled P) : Type 0 where
+  pub still : IsStill old new
+  pub same : (i : ℕ) → page_at new.frames i ≡ page_at old.frames i
 
 -- ---- fewer frames
 

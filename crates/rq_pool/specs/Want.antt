@@ -9,7 +9,7 @@ use Rattle.rq_disk.specs.declared.device.PageDevice.{Ghosts}
 use Rattle.rq_page.specs.Sizes.{Sizes, page_count}
 use Rattle.rq_page.specs.Pages.{lsn_of}
 use Rattle.rq_pool.specs.Fetching.{HasFailed, HasOutside}
-use Rattle.rq_pool.specs.Held.{Held, IsFixed}
+use Rattle.rq_pool.specs.Held.{Held, IsFixed, IsFramed}
 use Rattle.rq_pool.specs.KeptUp.{IsForced}
 use Rattle.rq_pool.specs.Pooled.{Pooled, image_at}
 
@@ -17,6 +17,10 @@ use Rattle.rq_pool.specs.Pooled.{Pooled, image_at}
 abbrev pub among : List ℕ → ℕ → Bool
 among [] q = false
 among (p ∷ ps) q = nat_eq p q || among ps q
+
+-- each of these pages stands in a frame
+abbrev pub AreFramed : List Held → List ℕ → Type 0
+AreFramed frames ps = (q : ℕ) → among ps q ≡ true → IsFramed frames q
 
 -- it stands in one of these frames
 abbrev pub framed_in : List Held → ℕ → Bool
@@ -81,14 +85,14 @@ pub record StayFixed (ps : List ℕ) (old new : List Held) : Type 0 where
 abbrev pub NoneFixed : List ℕ → List Held → Type 0
 NoneFixed ps frames = (q : ℕ) → among ps q ≡ true → IsFixed frames q → ⊥
 
--- Why pages were not fixed. They cannot all be had. Or a device failed: as it read a page that stood in no frame, or as it wrote out
--- one whose last record is forced. Or it gave no page of a store, and is not honest.
+-- Why pages were not fixed. They cannot all be had. Or a device failed: as it read one of them that stood in no frame, or as it wrote
+-- out a page whose last record is forced, for one that stood in none. Or it gave no page of a store, and is not honest.
 abbrev pub NotFixed : {P : Type 0} → Ghosts P → ℕ → List ℕ → Refusal → Pooled P → Pooled P → Type 0
 NotFixed g forced ps why.PoolFull old new = CannotBeHad old forced ps × (g.faults new.device ≡ g.faults old.device)
 NotFixed g forced ps why.DiskRead old new = (out : HasOutside old) × (among ps out.page ≡ true)
     × HasFailed g (Reads out.page) old.device new.device
 NotFixed g forced ps why.DiskWrite old new = (page : ℕ) × (image : List ℕ) × IsForced g forced new page image
-    × HasFailed g (Writes page image) old.device new.device
+    × HasFailed g (Writes page image) old.device new.device × (out : HasOutside old) × (among ps out.page ≡ true)
 NotFixed g forced ps (why.Damaged (damage.Page n)) old new = (among ps n ≡ true) × (g.honest new.device → ⊥)
     × (g.faults new.device ≡ g.faults old.device)
 NotFixed g forced ps _ old new = ⊥

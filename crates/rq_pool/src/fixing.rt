@@ -1,13 +1,13 @@
 //! Pages that an operation has fixed in their frames.
-ghost use Rattle.std.specs.Prelude.{◌≡◌, ◌≢◌, ◌<◌, ◌≤◌, ℕ, List, length, IfErr, IfNone, IfSome, OnErr, OnOk, Some, false, slice_set, true};
+ghost use Rattle.std.specs.Prelude.{◌≡◌, ◌≢◌, ◌<◌, ◌≤◌, ℕ, List, length, IfErr, IfNone, IfSome, IsOk, OnErr, OnOk, Some, false, slice_set, true};
 ghost use Rattle.rq_disk.specs.Device.PageAsk.{Writes};
 ghost use Rattle.rq_page.specs.Sizes.{page_count};
 ghost use Rattle.rq_pool.specs.Fetching.{HasFailed};
-ghost use Rattle.rq_pool.specs.Fixing.{AreHadTo, AreHeld, AreOnWay, AreSetTo, IsFull, IsHad, IsBrought, IsLoose, IsSetIn, NotBrought};
+ghost use Rattle.rq_pool.specs.Fixing.{AreHadTo, AreHeld, AreOnWay, AreSetTo, IsFull, IsHad, IsBrought, IsHeldStill, IsLoose, IsSetIn, NotBrought};
 ghost use Rattle.rq_pool.specs.Held.{IsFixed, IsFramed, fixed_at, page_at};
 ghost use Rattle.rq_pool.specs.KeptUp.{IsForced, IsKeptUp, IsStill};
 ghost use Rattle.rq_pool.specs.Pooled.{image_at, is_changed};
-ghost use Rattle.rq_pool.specs.Want.{AreOfStore, CannotBeHad, NoneFixed, NotFixed, StayFixed, among};
+ghost use Rattle.rq_pool.specs.Want.{AreFramed, AreOfStore, CannotBeHad, NoneFixed, NotFixed, StayFixed, among};
 
 use crate::Pages;
 use crate::frames::{find_loose, hold, put};
@@ -18,7 +18,7 @@ use rq_model::txn::Lsn;
 
 impl<P: PageDevice> Pages<P> {
     /// Has pages stand in frames and fixes them there; one may be named more than once. Others may give way, which are written out
-    /// where they have a change.
+    /// where they have a change. Nothing is read or written where each of them stands in a frame.
     ///
     /// # Errors
     /// `PoolFull`, only where those of them that stand in no frame are more than the frames that are not fixed, have none of
@@ -34,6 +34,7 @@ impl<P: PageDevice> Pages<P> {
         ensures left { OnErr result (NoneFixed pages.now self.new.frames) }
         ensures stay { StayFixed pages.now self.old.frames self.new.frames }
         ensures count { length self.new.frames ≡ length self.old.frames }
+        ensures stood { AreFramed self.old.frames pages.now → IsOk result × IsHeldStill self.old self.new }
         ensures others { (p : ℕ) → IsFixed self.old.frames p → image_at self.new.images p ≡ image_at self.old.images p }
         ensures kept { IsKeptUp P.PageDevice forced self.old self.new }
     {
@@ -88,6 +89,7 @@ impl<P: PageDevice> Pages<P> {
         ensures had { OnOk result (AreHadTo P.PageDevice forced self.old self.new pages.now (length pages.now)) }
         ensures refused { IfErr result (λ e. NotFixed P.PageDevice forced pages.now e self.old self.new) }
         ensures way { AreOnWay P.PageDevice forced self.old self.new pages.now }
+        ensures stood { AreFramed self.old.frames pages.now → IsOk result × (self.new ≡ self.old) }
     {
         for place in 0..pages.len() {
             match self.bring(pages[place], forced) {

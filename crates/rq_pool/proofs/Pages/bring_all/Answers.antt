@@ -1,7 +1,7 @@
-use Rattle.std.proofs.Common.{◌≡◌, ◌<◌, ℕ, length, arith, slice_index_or, sym, subst}
+use Rattle.std.proofs.Common.{◌≡◌, ◌<◌, ℕ, length, arith, refl, slice_index_or, sym, subst}
 use Rattle.rq_page.specs.Sizes.{Sizes, page_count}
 use Rattle.rq_pool.specs.Fixing.{AreHadTo}
-use Rattle.rq_pool.proofs.Bringing.{had_first, had_next, had_not, way_on}
+use Rattle.rq_pool.proofs.Bringing.{had_first, had_next, had_not, had_outside, way_on}
 use Rattle.rq_pool.proofs.Pages.bring_all.Goals as goal
 
 pub loop-place-init : goal.loop-place-init
@@ -41,3 +41,11 @@ returns-in-Err-clause-way g c =
     let lt : c.loop-place.place < length c.args.pages.now = omega (arith, c.loop-place-test.true, c.loop-place.auto.place-end) in
     let f = c.in-Err.ensures in
     way_on g.P.PageDevice c.args.forced c.args.self.now c.loop-place.self c.bring.new.self c.args.pages.now c.loop-place.place c.loop-place.invariant lt f.left f.others f.kept
+
+pub returns-clause-stood : goal.returns-clause-stood
+returns-clause-stood g c = λ all. (refl, c.loop-place.invariant.stood all)
+
+pub returns-in-Err-clause-stood : goal.returns-in-Err-clause-stood
+returns-in-Err-clause-stood g c =
+    let lt : c.loop-place.place < length c.args.pages.now = omega (arith, c.loop-place-test.true, c.loop-place.auto.place-end) in
+    λ all. absurd (had_outside g.P.PageDevice c.args.forced c.args.self.now c.loop-place.self c.bring.new.self c.args.pages.now c.loop-place.place c.loop-place.invariant lt c.in-Err.refusal c.in-Err.ensures.refused all)

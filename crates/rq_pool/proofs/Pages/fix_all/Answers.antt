@@ -1,7 +1,8 @@
-use Rattle.std.proofs.Common.{subst, sym}
+use Rattle.std.proofs.Common.{IsOk, Result, refl, subst, sym}
+use Rattle.std.proofs.lemmas.Bool.{false≢true}
 use Rattle.rq_page.specs.Sizes.{Sizes}
 use Rattle.rq_pool.specs.Want.{AreOfStore}
-use Rattle.rq_pool.proofs.Bringing.{cannot_then, had_all, had_fixed, kept_let, not_fixed, not_let, stay_let, way_before}
+use Rattle.rq_pool.proofs.Bringing.{cannot_then, framed_held, had_all, had_fixed, kept_let, not_fixed, not_let, stay_let, stood_still, way_before}
 use Rattle.rq_pool.proofs.Holding.{held_last}
 use Rattle.rq_pool.proofs.Pages.fix_all.Goals as goal
 
@@ -36,3 +37,13 @@ pub returns-in-Err-clause-kept : goal.returns-in-Err-clause-kept
 returns-in-Err-clause-kept g c =
     let way = way_before g.P.PageDevice c.args.forced c.args.self.now c.hold_all.new.self c.args.pages.now c.hold_all.ensures c.bring_all.new.self c.in-Err.ensures.way in
     kept_let g.P.PageDevice c.args.forced c.args.self.now c.bring_all.new.self c.let_all.new.self c.args.pages.now c.let_all.ensures.still way
+
+pub returns-in-Ok-clause-stood : goal.returns-in-Ok-clause-stood
+returns-in-Ok-clause-stood g c all =
+    let held = framed_held g.P.PageDevice c.args.forced c.args.self.now c.hold_all.new.self c.args.pages.now c.hold_all.ensures all in
+    (refl, stood_still g.P.PageDevice c.args.forced c.args.self.now c.hold_all.new.self c.args.pages.now c.hold_all.ensures c.bring_all.new.self (c.bring_all.ensures.stood held).1)
+
+pub returns-in-Err-clause-stood : goal.returns-in-Err-clause-stood
+returns-in-Err-clause-stood g c all =
+    let held = framed_held g.P.PageDevice c.args.forced c.args.self.now c.hold_all.new.self c.args.pages.now c.hold_all.ensures all in
+    absurd (false≢true (subst (λ (r : Result _ _). IsOk r) c.in-Err.is (c.bring_all.ensures.stood held).0))
