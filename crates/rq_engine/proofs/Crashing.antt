@@ -340,7 +340,7 @@ module _ {P L : Type 0} (p : page_device.Ghosts P) (x : List Record) (old new : 
   counts_over r h = h
 
   stay_over : (starts : Bool) (r : Reply) → PagesStay starts p old r new → PagesStay starts p (over x old) r (over x new)
-  stay_over true r h = (h.0, counts_over r h.1)
+  stay_over true r h = (h.0, counts_over r h.1, h.2)
   stay_over false r h = h
 
   pages_over : (e : Event) (r : Reply) → PagesSay p old new e r → PagesSay p (over x old) (over x new) e r

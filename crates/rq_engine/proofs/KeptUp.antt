@@ -1,5 +1,5 @@
 -- Open stores that are kept up.
-use Rattle.std.proofs.Common.{◌≡◌, ℕ, Bool, true, false, List, refl, sym, ap, subst, ◌∙◌, Result, Ok, Err, IfErr, ◌+◌, ◌%◌, ◌^◌, ◌<◌}
+use Rattle.std.proofs.Common.{◌≡◌, ℕ, Bool, true, false, List, length, slice_index_or, refl, sym, ap, subst, ◌∙◌, Result, Ok, Err, IfErr, ◌+◌, ◌%◌, ◌^◌, ◌<◌}
 use Rattle.rq_disk.specs.declared.device.LogDevice as log_device
 use Rattle.rq_disk.specs.declared.device.PageDevice as page_device
 use Rattle.rq_model.specs.declared.refusal.Refusal.{Refusal}
@@ -17,7 +17,9 @@ use Rattle.rq_planner.specs.Asked.{Task}
 use Rattle.rq_planner.specs.Lawful.{MayRefuse}
 use Rattle.rq_pool.proofs.Fetched.{read_none, read_then, still_read}
 use Rattle.rq_pool.proofs.KeptUp.{kept_still, kept_then}
-use Rattle.rq_pool.specs.Fetching.{HasFailed, HasReadFor, MayHaveRead}
+use Rattle.rq_pool.specs.Fetching.{AreAllFramed, HasFailed, HasOutside, HasReadFor, MayHaveRead}
+use Rattle.rq_pool.specs.Fixing.{IsHeldStill}
+use Rattle.rq_pool.proofs.Wants.{among_one}
 use Rattle.rq_pool.specs.Pooled.{Pooled}
 use Rattle.rq_store.specs.State.{State}
 use Rattle.rq_txn.specs.Rows.{Row, change_row, row_started}
@@ -27,7 +29,7 @@ use Rattle.rq_engine.specs.KeptUp.{AreButRead, KeepsDevices, KeepsUp, RefusalCou
 use Rattle.rq_engine.specs.Frames.{IsForFrames, NotBegun}
 use Rattle.rq_level.specs.LevelState.{LevelState}
 use Rattle.rq_planner.proofs.Knowing.{knows_kept}
-use Rattle.rq_pool.specs.Want.{NotFixed, CannotBeHad, OutnumberFrames}
+use Rattle.rq_pool.specs.Want.{AreFramed, AreOfStore, NotFixed, CannotBeHad, OutnumberFrames}
 use Rattle.rq_engine.specs.Lists.{DoesTask, IsStarted}
 use Rattle.rq_engine.specs.Opened.{AreHonest, LeavesDevices, OpenStore, pooled}
 use Rattle.rq_engine.specs.Plans.{Planned, under_plan, is_latched}
@@ -36,7 +38,7 @@ use Rattle.std.specs.Prelude.{OnOk}
 use Rattle.std.proofs.lemmas.Bool.{false≢true, true≢false}
 use Rattle.rq_groups.specs.Ends.{HeldEnds}
 use Rattle.rq_pool.specs.Held.{Held, IsFramed}
-use Rattle.rq_pool.specs.KeptUp.{IsForced, IsKeptUp}
+use Rattle.rq_pool.specs.KeptUp.{IsForced, IsKeptUp, IsStill}
 use Rattle.rq_disk.specs.Device.{PageAsk}
 use Rattle.rq_disk.specs.Device.PageAsk.{Reads, Writes}
 
@@ -64,15 +66,19 @@ not_begun_may H why.DiskWrite n = tt
 not_begun_may H (why.Damaged d) n = tt
 not_begun_may H _ n = absurd n
 
+-- what stays of pages to which nothing happened
+pub pages_stay : {P : Type 0} (old new : Pooled P) → new ≡ old → (new.device ≡ old.device) × (new.changed ≡ old.changed) × (new.images ≡ old.images)
+pages_stay {P} old new same = (ap (λ (s : Pooled P). s.device) same, ap (λ (s : Pooled P). s.changed) same, ap (λ (s : Pooled P). s.images) same)
+
 module _ {P L : Type 0} (g : page_device.Ghosts P) where
   -- no device was called
   pub devices_still : (old new : OpenStore P L) → LeavesDevices old new → new.state.sizes ≡ old.state.sizes → new.state.images ≡ old.state.images → KeepsDevices g old new
-  devices_still old new left sizes images = (kept_still g old.state.forced (pooled old) (pooled new) left.0 sizes images left.2, left.1, left.3)
+  devices_still old new left sizes images = (kept_still g old.state.forced (pooled old) (pooled new) left.0 sizes images left.2, left.1, left.3, left.4, λ _. (left.0, left.2, images))
 
   -- nothing happened
   pub up_still : (c : Call) (old new : OpenStore P L) → new ≡ old → KeepsUp g c old new
   up_still c old new same =
-      subst (λ (s : OpenStore P L). KeepsUp g c old s) (sym same) (record { devices = devices_still old old (refl, refl, refl, refl) refl refl; lists = refl; faults = refl; read = λ e. (read_none g old.pages, refl); still = λ e. refl })
+      subst (λ (s : OpenStore P L). KeepsUp g c old s) (sym same) (record { devices = devices_still old old (refl, refl, refl, refl, refl) refl refl; lists = refl; faults = refl; read = λ e. (read_none g old.pages, refl); still = λ e. refl })
 
   -- over an honest device the lists are all as they were
   pub up_state : {c : Call} (old new : OpenStore P L) → KeepsUp g c old new → g.honest new.pages → new.state ≡ old.state
@@ -101,7 +107,7 @@ module _ {P L : Type 0} (g : page_device.Ghosts P) where
   so_far_then old mid new a b = (pages_then old mid new a.0 b.0, b.1 ∙ a.1)
 
   pub read_devices : (old new : OpenStore P L) → HasReadPages g old new → KeepsDevices g old new
-  read_devices old new h = (h.pages.kept old.state.forced, h.log, h.replacing)
+  read_devices old new h = (h.pages.kept old.state.forced, h.log, h.replacing, ap (λ (l : List Held). length l) h.pages.frames, λ all. pages_stay (pooled old) (pooled new) (h.pages.stood all))
 
   -- over an honest device the lists are as they were
   pub read_state : (old new : OpenStore P L) → HasReadPages g old new → g.honest new.pages → new.state ≡ old.state
@@ -110,30 +116,40 @@ module _ {P L : Type 0} (g : page_device.Ghosts P) where
   -- what was done then is done of the pages as they were
   pub devices_then : (old mid new : OpenStore P L) → HasReadPages g old mid → KeepsDevices g mid new → KeepsDevices g old new
   devices_then old mid new a b =
-      let forced : mid.state.forced ≡ old.state.forced = ap (λ (s : State). s.forced) a.lists in
-      (kept_then g old.state.forced (pooled old) (pooled mid) (pooled new) (a.pages.kept old.state.forced) (subst (λ (n : ℕ). IsKeptUp g n (pooled mid) (pooled new)) forced b.0), b.1 ∙ a.log, b.2 ∙ a.replacing)
+      let forced : mid.state.forced ≡ old.state.forced = ap (λ (s : State). s.forced) a.lists in (
+        kept_then g old.state.forced (pooled old) (pooled mid) (pooled new) (a.pages.kept old.state.forced) (subst (λ (n : ℕ). IsKeptUp g n (pooled mid) (pooled new)) forced b.0),
+        b.1 ∙ a.log,
+        b.2 ∙ a.replacing,
+        b.3 ∙ ap (λ (l : List Held). length l) a.pages.frames,
+        λ all.
+            let same = a.pages.stood all in
+            let one = pages_stay (pooled old) (pooled mid) same in
+            let two = b.4 (subst (λ (s : Pooled P). AreAllFramed s) (sym same) all) in
+            (two.0 ∙ one.0, two.1 ∙ one.1, two.2 ∙ one.2),
+      )
 
   -- and a failure is the first
   failed_then : (old mid new : OpenStore P L) (ask : PageAsk) → HasReadSoFar g old mid → HasFailed g ask mid.pages new.pages → HasFailed g ask old.pages new.pages
   failed_then old mid new ask a c = record { once = c.once ∙ ap (λ n. (n + 1) % 2 ^ 64) a.1; before = c.before; none = c.none ∙ a.1; excused = c.excused }
+
+  -- a page that stood in no frame did not before
+  abbrev outside_then : (old mid : OpenStore P L) → HasReadPages g old mid → HasOutside (pooled mid) → HasOutside (pooled old)
+  outside_then old mid a out = record {
+    page = out.page;
+    behind = out.behind;
+    within = subst (λ (z : Sizes). out.page < page_count z) (a.pages.kept 0).sizes out.within;
+    outside = λ framed. out.outside (subst (λ (f : List Held). IsFramed f out.page) (sym a.pages.frames) framed);
+  }
 
   pub counts_then : (old mid new : OpenStore P L) → HasReadSoFar g old mid → (r : Refusal) → MayRefuseStart r → RefusalCounts g r mid new → RefusalCounts g r old new
   counts_then old mid new a why.NoMemory stops c = c ∙ a.1
   counts_then old mid new a why.Latched stops c = c ∙ a.1
   counts_then old mid new a why.PoolFull stops c = c ∙ a.1
   counts_then old mid new a (why.Damaged d) stops c = c ∙ a.1
-  counts_then old mid new a why.DiskRead stops c = (
-    record {
-      page = c.0.page;
-      behind = c.0.behind;
-      within = subst (λ (z : Sizes). c.0.page < page_count z) (a.0.pages.kept 0).sizes c.0.within;
-      outside = λ framed. c.0.outside (subst (λ (f : List Held). IsFramed f c.0.page) (sym a.0.pages.frames) framed);
-    },
-    failed_then old mid new (Reads c.0.page) a c.1,
-  )
+  counts_then old mid new a why.DiskRead stops c = (outside_then old mid a.0 c.0, failed_then old mid new (Reads c.0.page) a c.1)
   counts_then old mid new a why.DiskWrite stops c =
       let forced : mid.state.forced ≡ old.state.forced = ap (λ (s : State). s.forced) a.0.lists in
-      (c.0, c.1, subst (λ (n : ℕ). IsForced g n (pooled new) c.0 c.1) forced c.2, failed_then old mid new (Writes c.0 c.1) a c.3)
+      (c.0, c.1, subst (λ (n : ℕ). IsForced g n (pooled new) c.0 c.1) forced c.2, failed_then old mid new (Writes c.0 c.1) a c.3, outside_then old mid a.0 c.4)
   counts_then old mid new a _ stops c = absurd stops
 
   -- ---- starts
@@ -230,12 +246,18 @@ module _ {P : Type 0} (g : page_device.Ghosts P) (forced : ℕ) (ps : List ℕ) 
 
   pub not_fixed_frames : (X : Type 0) (old new : Pooled P) (r : Refusal) → (CannotBeHad old forced ps → OutnumberFrames old forced ps) → NotFixed g forced ps r old new → IsForFrames {X = X} old forced ps (Err r)
   not_fixed_frames X old new why.PoolFull counted n = counted n.0
+  not_fixed_frames X old new why.DiskWrite counted n = λ all. n.4.outside (all n.4.page n.5)
   not_fixed_frames X old new _ counted n = tt
+
+-- where each page of the store stands in a frame, nothing happened but that some were fixed
+pub stay_framed : {P X : Type 0} (ps : List ℕ) (old new : Pooled P) → AreOfStore old.sizes ps → (AreFramed old.frames ps → X × IsHeldStill old new) → AreAllFramed old → IsStill old new
+stay_framed ps old new of_store stood all =
+    (stood (λ q wanted. (let one = among_one ps q wanted in subst (IsFramed old.frames) one.is (all (slice_index_or ps one.at 0) (of_store one.at one.within).0 (of_store one.at one.within).1)))).1.still
 
 pub not_fixed_counts : {P L : Type 0} (g : page_device.Ghosts P) (ps : List ℕ) (old new : OpenStore P L) (r : Refusal) → NotFixed g old.state.forced ps r (pooled old) (pooled new) → RefusalCounts g r old new
 not_fixed_counts g ps old new why.PoolFull n = n.1
 not_fixed_counts g ps old new why.DiskRead n = (n.0, n.2)
-not_fixed_counts g ps old new why.DiskWrite n = n
+not_fixed_counts g ps old new why.DiskWrite n = (n.0, n.1, n.2, n.3, n.4)
 not_fixed_counts g ps old new (why.Damaged (Page p)) n = n.2
 not_fixed_counts g ps old new _ n = absurd n
 

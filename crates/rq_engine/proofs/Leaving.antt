@@ -1,5 +1,5 @@
 -- What a refusal leaves of the store.
-use Rattle.std.proofs.Common.{◌≡◌, ◌∙◌, Bool, true, false, IfErr, IfOk, Option, Some, None, Result, Ok, Err, refl, subst, sym}
+use Rattle.std.proofs.Common.{◌≡◌, ◌∙◌, Bool, true, false, IfErr, IfOk, Option, Some, None, Result, Ok, Err, length, refl, subst, sym}
 use Rattle.std.specs.Prelude.{IfSome, IfNone}
 use Rattle.std.proofs.lemmas.Bool.{true≢false}
 use Rattle.rq_model.specs.declared.txn.Sub.{Sub}
@@ -84,24 +84,24 @@ module _ {P L : Type 0} (old new : OpenStore P L) where
     abbrev OnlyReads : Call → Type 0
     OnlyReads c = starts_one c ≡ false → OnlyRead p old.pages new.pages × (new.changed ≡ old.changed)
 
-    keeps_devices : (e : Event) (r : Reply) → reads_pages (call_of e) ≡ true → PagesSay p old new e r → LogSays l old new e r → ReplacingSays old e r new → ChangesSay old e r new → KeepsDevices p old new × ReplyCounts p r old new × OnlyReads (call_of e)
-    keeps_devices event.Content r is pages log replacing changes = ((pages.0.0, log, replacing), pages.1, λ none. (pages.0.1, changes))
-    keeps_devices (event.StartSend txn sender tag body) r is pages log replacing changes = ((pages.0, log, replacing), pages.1, λ none. absurd (true≢false none))
-    keeps_devices (event.StartReceive txn) r is pages log replacing changes = ((pages.0, log, replacing), pages.1, λ none. absurd (true≢false none))
-    keeps_devices (event.StartReceiveFrom txn sender) r is pages log replacing changes = ((pages.0, log, replacing), pages.1, λ none. absurd (true≢false none))
-    keeps_devices (event.StartClose txn sender) r is pages log replacing changes = ((pages.0, log, replacing), pages.1, λ none. absurd (true≢false none))
-    keeps_devices (event.StartMark txn client tag) r is pages log replacing changes = ((pages.0, log, replacing), pages.1, λ none. absurd (true≢false none))
-    keeps_devices (event.UndoNext txn) r is pages log replacing changes = ((pages.0, log, replacing), pages.1, λ none. absurd (true≢false none))
-    keeps_devices _ r is pages log replacing changes = absurd (true≢false (sym is))
+    keeps_devices : (e : Event) (r : Reply) → reads_pages (call_of e) ≡ true → PagesSay p old new e r → LogSays l old new e r → ReplacingSays old e r new → ChangesSay old e r new → length new.frames ≡ length old.frames → KeepsDevices p old new × ReplyCounts p r old new × OnlyReads (call_of e)
+    keeps_devices event.Content r is pages log replacing changes count = ((pages.0.0, log, replacing, count, pages.0.2), pages.1, λ none. (pages.0.1, changes))
+    keeps_devices (event.StartSend txn sender tag body) r is pages log replacing changes count = ((pages.0, log, replacing, count, pages.2), pages.1, λ none. absurd (true≢false none))
+    keeps_devices (event.StartReceive txn) r is pages log replacing changes count = ((pages.0, log, replacing, count, pages.2), pages.1, λ none. absurd (true≢false none))
+    keeps_devices (event.StartReceiveFrom txn sender) r is pages log replacing changes count = ((pages.0, log, replacing, count, pages.2), pages.1, λ none. absurd (true≢false none))
+    keeps_devices (event.StartClose txn sender) r is pages log replacing changes count = ((pages.0, log, replacing, count, pages.2), pages.1, λ none. absurd (true≢false none))
+    keeps_devices (event.StartMark txn client tag) r is pages log replacing changes count = ((pages.0, log, replacing, count, pages.2), pages.1, λ none. absurd (true≢false none))
+    keeps_devices (event.UndoNext txn) r is pages log replacing changes count = ((pages.0, log, replacing, count, pages.2), pages.1, λ none. absurd (true≢false none))
+    keeps_devices _ r is pages log replacing changes count = absurd (true≢false (sym is))
 
     memory_by : (c : Call) (reads : Bool) → reads_pages c ≡ reads → (writes : Bool) → RefusedBy reads writes c old why.NoMemory new → (reads ≡ true → KeepsDevices p old new × (p.faults new.pages ≡ p.faults old.pages) × OnlyReads c) → KeepsUp p c old new
     memory_by c true is writes h devices = record { devices = (devices refl).0; lists = h.1; faults = (devices refl).1; read = (devices refl).2; still = λ none. absurd (true≢false (sym is ∙ none)) }
     memory_by c false is writes h devices = up_still p c old new h
 
-    pub memory_keeps : (e : Event) (r : Reply) → PagesSay p old new e r → LogSays l old new e r → ReplacingSays old e r new → ChangesSay old e r new → RefusalLeaves old e r new → r ≡ reply.Refused why.NoMemory → KeepsUp p (call_of e) old new
-    memory_keeps e r pages log replacing changes left is =
+    pub memory_keeps : (e : Event) (r : Reply) → PagesSay p old new e r → LogSays l old new e r → ReplacingSays old e r new → ChangesSay old e r new → length new.frames ≡ length old.frames → RefusalLeaves old e r new → r ≡ reply.Refused why.NoMemory → KeepsUp p (call_of e) old new
+    memory_keeps e r pages log replacing changes count left is =
         memory_by (call_of e) (reads_pages (call_of e)) refl (writes_out (call_of e)) (subst (λ (x : Reply). RefusalLeaves old e x new) is left)
-        (λ reads. (let k = keeps_devices e r reads pages log replacing changes in (k.0, subst (λ (x : Reply). ReplyCounts p x old new) is k.1, k.2)))
+        (λ reads. (let k = keeps_devices e r reads pages log replacing changes count in (k.0, subst (λ (x : Reply). ReplyCounts p x old new) is k.1, k.2)))
 
     content_of : (e : Event) (groups : _) → OnRead (reads_pages (call_of e)) (p.honest new.pages) (ListsSay old.state e (reply.Content groups) new.state) → BegunSay old e (reply.Content groups) new → (reads_pages (call_of e) ≡ true) × AreButRead old.state new.state
     content_of event.Content groups lists begun = (refl, begun)
@@ -113,9 +113,9 @@ module _ {P L : Type 0} (old new : OpenStore P L) where
     content_of (event.UndoNext txn) groups lists begun = absurd begun
     content_of _ groups lists begun = absurd lists
 
-    pub content_keeps : (e : Event) (r : Reply) → IsContent r → OnRead (reads_pages (call_of e)) (p.honest new.pages) (ListsSay old.state e r new.state) → BegunSay old e r new → PagesSay p old new e r → LogSays l old new e r → ReplacingSays old e r new → ChangesSay old e r new → KeepsUp p (call_of e) old new
-    content_keeps e (reply.Content groups) is lists begun pages log replacing changes =
+    pub content_keeps : (e : Event) (r : Reply) → IsContent r → OnRead (reads_pages (call_of e)) (p.honest new.pages) (ListsSay old.state e r new.state) → BegunSay old e r new → PagesSay p old new e r → LogSays l old new e r → ReplacingSays old e r new → ChangesSay old e r new → length new.frames ≡ length old.frames → KeepsUp p (call_of e) old new
+    content_keeps e (reply.Content groups) is lists begun pages log replacing changes count =
         let c = content_of e groups lists begun in
-        let k = keeps_devices e (reply.Content groups) c.0 pages log replacing changes in
+        let k = keeps_devices e (reply.Content groups) c.0 pages log replacing changes count in
         record { devices = k.0; lists = c.1; faults = k.1; read = k.2; still = λ none. absurd (true≢false (sym c.0 ∙ none)) }
-    content_keeps e _ is lists begun pages log replacing changes = absurd is
+    content_keeps e _ is lists begun pages log replacing changes count = absurd is

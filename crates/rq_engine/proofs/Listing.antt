@@ -23,8 +23,9 @@ use Rattle.rq_engine.specs.Earlier.{on, IsEarlier}
 use Rattle.rq_engine.specs.Answers.{AnswersLegally, HasNothingUnderWay}
 use Rattle.rq_engine.specs.Opened.{AreHonest, OpenStore}
 use Rattle.rq_engine.specs.Aborts.{UndoSays}
+use Rattle.rq_engine.specs.Applied.{LatchedReply, TakesUnlatched}
 use Rattle.rq_engine.specs.Receives.{started_of, undoing_of}
-use Rattle.rq_engine.specs.Says.{begun_reply, call_of, gave, undo_reply}
+use Rattle.rq_engine.specs.Says.{RefusedForCause, begun_reply, call_of, gave, undo_reply}
 use Rattle.rq_model.specs.Causes.{reads_pages}
 use Rattle.rq_engine.specs.KeptUp.{OnRead}
 use Rattle.rq_engine.specs.Lists.{IsBegun, IsCommitted, TakeSays, TakeFromSays, ListsSay, done_by}
@@ -80,9 +81,28 @@ begun_answered p l old call (Ok (Some sub)) y e new is says reply h earlier long
 begun_answered p l old call (Ok None) y e new is says reply h earlier long k = rw (is, reply) (says h earlier long k)
 begun_answered p l old call (Err r) y e new is says reply h earlier long k = rw (is, reply) (says h earlier long k).0
 
+-- and it is refused for the same cause
+pub begun_caused : {P L : Type 0} (p : page_device.Ghosts P) (l : log_device.Ghosts L) (old : OpenStore P L) (call : Call) (x : Result (Option Sub) Refusal) (y : Reply) (e : Event) (new : OpenStore P L) → call_of e ≡ call → AnswersLegally p l old call started_of x new → y ≡ begun_reply x
+    → AreHonest p l new → (earlier : List Record) → IsEarlier earlier old.state → IsSound (on earlier old.state) → RefusedForCause (on earlier old.state) e y
+begun_caused p l old call (Ok (Some sub)) y e new is says reply h earlier long k = rw reply tt
+begun_caused p l old call (Ok None) y e new is says reply h earlier long k = rw reply tt
+begun_caused p l old call (Err r) y e new is says reply h earlier long k = rw (reply, is) (says h earlier long k).1
+
 -- so is that to the start of an inverse
 pub undo_answered : {P L : Type 0} (p : page_device.Ghosts P) (l : log_device.Ghosts L) (old : OpenStore P L) (call : Call) (x : Result (Option Sub) Refusal) (y : Reply) (e : Event) (new : OpenStore P L) → call_of e ≡ call → AnswersLegally p l old call undoing_of x new → y ≡ undo_reply x
     → AreHonest p l new → (earlier : List Record) → IsEarlier earlier old.state → IsSound (on earlier old.state) → IsModelStep (on earlier old.state) (call_of e) (gave y) (on earlier new.state)
 undo_answered p l old call (Ok (Some sub)) y e new is says reply h earlier long k = rw (is, reply) (says h earlier long k)
 undo_answered p l old call (Ok None) y e new is says reply h earlier long k = rw (is, reply) (says h earlier long k)
 undo_answered p l old call (Err r) y e new is says reply h earlier long k = rw (is, reply) (says h earlier long k).0
+
+-- ---- what replies tell of latches
+
+pub begun_latched : (s : State) (call : Call) (x : Result (Option Sub) Refusal) (y : Reply) → TakesUnlatched s call x → y ≡ begun_reply x → LatchedReply s call y
+begun_latched s call (Ok (Some sub)) y h is = rw is h
+begun_latched s call (Ok None) y h is = rw is tt
+begun_latched s call (Err r) y h is = rw is h
+
+pub undo_latched : (s : State) (call : Call) (x : Result (Option Sub) Refusal) (y : Reply) → TakesUnlatched s call x → y ≡ undo_reply x → LatchedReply s call y
+undo_latched s call (Ok (Some sub)) y h is = rw is h
+undo_latched s call (Ok None) y h is = rw is tt
+undo_latched s call (Err r) y h is = rw is h

@@ -1,5 +1,5 @@
 -- Frames that a start needs.
-use Rattle.std.proofs.Common.{◌≡◌, ℕ, suc, ◌+◌, ◌<◌, ◌||◌, ◌++◌, cond, nat_lt, List, [], ◌∷◌, length, Option, Some, None, option_map, refl, ap, subst, ◌∙◌, arith, Result, Ok, Err, IsTrue}
+use Rattle.std.proofs.Common.{◌≡◌, ℕ, suc, ◌+◌, ◌<◌, ◌||◌, ◌++◌, cond, nat_lt, List, [], ◌∷◌, length, Option, Some, None, option_map, refl, sym, ap, subst, ◌∙◌, arith, Result, Ok, Err, IsTrue}
 use Rattle.std.specs.Prelude.{OnOk}
 use Rattle.std.proofs.lemmas.Bool.{false≢true}
 use Rattle.rq_disk.specs.declared.device.PageDevice as page_device
@@ -18,7 +18,7 @@ use Rattle.rq_planner.specs.Asked.Task.{Chain, Tag}
 use Rattle.rq_planner.specs.Lawful.{MayRefuse}
 use Rattle.rq_pool.specs.Held.{Held, page_at}
 use Rattle.rq_pool.specs.Pooled.{image_at}
-use Rattle.rq_pool.specs.Want.{distinct, has_to_stay, staying}
+use Rattle.rq_pool.specs.Want.{AreFramed, distinct, has_to_stay, staying}
 use Rattle.rq_store.specs.Plans.{IsSendPlan, IsTakePlan, WaitsFor}
 use Rattle.rq_store.specs.State.{State}
 use Rattle.rq_sound.specs.Groups.{slots_now}
@@ -32,13 +32,14 @@ use Rattle.rq_engine.specs.Answers.{HasNothingUnderWay, OnUnder}
 use Rattle.rq_engine.specs.Applied.{FramesReply}
 use Rattle.rq_engine.specs.Closes.{IsClosePlan}
 use Rattle.rq_engine.specs.declared.event.Reply.{Reply}
-use Rattle.rq_engine.specs.Fixing.{AreWritesOf, HasNoFrames, LacksFrames, OnPoolFull, StartHasFrames, TakeHasFrames}
+use Rattle.rq_engine.specs.Fixing.{AreWritesOf, LacksFrames, OnFrames, RefusedForFrames, StartHasFrames, TakeHasFrames}
 use Rattle.rq_engine.specs.Frames.{IsForFrames, pages_of}
 use Rattle.rq_engine.specs.KeptUp.{AreButRead, HasReadPages, HasReadSoFar, KeepsDevices}
 use Rattle.rq_engine.specs.Marks.{IsMarkPlan}
 use Rattle.rq_engine.specs.Opened.{OpenStore, pooled}
 use Rattle.rq_engine.specs.Plans.{AreTakeWrites, AreWritesFor, IsInversePlan, under_plan}
 use Rattle.rq_engine.specs.Says.{begun_reply, undo_reply}
+use Rattle.rq_engine.specs.Sends.{TakesLowest}
 use Rattle.rq_engine.proofs.KeptUp.{read_state}
 use Rattle.rq_engine.proofs.Leveled.{close_plan, mark_plan, send_plan, take_plan}
 use Rattle.rq_engine.proofs.Refusals.{found_of, on_found}
@@ -86,6 +87,10 @@ module _ {P L : Type 0} (g : page_device.Ghosts P) (old mid : OpenStore P L) (re
       let b = ap (λ (l : List Held). length l) read.pages.frames in
       omega (arith, a, b, lacks)
 
+  -- nor of which pages stand in frames
+  outside_before : (ws : List SlotWrite) → (AreFramed mid.frames (pages_of ws) → ⊥) → AreFramed old.frames (pages_of ws) → ⊥
+  outside_before ws outside all = outside (subst (λ (l : List Held). AreFramed l (pages_of ws)) (sym read.pages.frames) all)
+
   module _ {X : Type 0} where
     -- what was planned begins, or does not
     pub planned_frames : (t : Txn) (u : Under) (MayBe : List SlotWrite → Type 0) (new lists : State) → HasNothingUnderWay old.state t u.number → MayBe u.writes → lists.rows ≡ change_row t (row_started u) mid.state.rows → (answer : Result X Refusal) → OnOk answer (AreButRead lists new)
@@ -93,26 +98,31 @@ module _ {P L : Type 0} (g : page_device.Ghosts P) (old mid : OpenStore P L) (re
     planned_frames t u MayBe new lists ready may rows (Ok x) begun frames =
         begun_is old.state.rows new.rows t u (λ r v. LacksFrames old v.writes → ⊥) ready (ap (λ (s : State). s.rows) begun ∙ rows ∙ ap (λ (s : State). change_row t (row_started u) s.rows) read.lists) (λ r lacks. frames (lacks_after u.writes lacks))
     planned_frames t u MayBe new lists ready may rows (Err why.PoolFull) begun frames = (u.writes, lacks_before u.writes frames, may)
+    planned_frames t u MayBe new lists ready may rows (Err why.DiskWrite) begun frames = (u.writes, outside_before u.writes frames, may)
     planned_frames t u MayBe new lists ready may rows (Err _) begun frames = tt
 
     -- a start is tried behind others
     pub frames_then : (A B : List SlotWrite → Type 0) → ((ws : List SlotWrite) → A ws → B ws) → (sub : Sub) (answer : Result X Refusal) (new : State) → StartHasFrames A mid sub answer new → StartHasFrames B old sub answer new
     frames_then A B more sub (Ok x) new h = under_more sub.number (λ r u. LacksFrames mid u.writes → ⊥) (λ r u. LacksFrames old u.writes → ⊥) (λ r u none lacks. none (lacks_after u.writes lacks)) (found_row sub.txn new.rows) h
     frames_then A B more sub (Err why.PoolFull) new h = (h.0, lacks_before h.0 h.1, more h.0 h.2)
+    frames_then A B more sub (Err why.DiskWrite) new h = (h.0, outside_before h.0 h.1, more h.0 h.2)
     frames_then A B more sub (Err _) new h = tt
 
 -- what is not planned is not refused for frames
-pub no_plan_frames : (A : Type 0) (r : Refusal) → MayRefuse r → OnPoolFull A r
-no_plan_frames A why.PoolFull m = absurd m
-no_plan_frames A _ m = tt
+pub no_plan_frames : (A B : Type 0) (r : Refusal) → MayRefuse r → OnFrames A B r
+no_plan_frames A B why.PoolFull m = absurd m
+no_plan_frames A B why.DiskWrite m = absurd m
+no_plan_frames A B _ m = tt
 
 -- nor does a test refuse it so
-pub no_test_frames : (A : Type 0) (r : Refusal) → IsTrue (without_pages r) → OnPoolFull A r
-no_test_frames A why.PoolFull m = absurd (false≢true m)
-no_test_frames A _ m = tt
+pub no_test_frames : (A B : Type 0) (r : Refusal) → IsTrue (without_pages r) → OnFrames A B r
+no_test_frames A B why.PoolFull m = absurd (false≢true m)
+no_test_frames A B why.DiskWrite m = absurd (false≢true m)
+no_test_frames A B _ m = tt
 
-pub full_more : {P L : Type 0} (old : OpenStore P L) (A B : List SlotWrite → Type 0) → ((ws : List SlotWrite) → A ws → B ws) → (r : Refusal) → OnPoolFull (HasNoFrames A old) r → OnPoolFull (HasNoFrames B old) r
+pub full_more : {P L : Type 0} (old : OpenStore P L) (A B : List SlotWrite → Type 0) → ((ws : List SlotWrite) → A ws → B ws) → (r : Refusal) → RefusedForFrames A old r → RefusedForFrames B old r
 full_more old A B more why.PoolFull h = (h.0, h.1, more h.0 h.2)
+full_more old A B more why.DiskWrite h = (h.0, h.1, more h.0 h.2)
 full_more old A B more _ h = tt
 
 -- ---- receives
@@ -134,8 +144,8 @@ module _ {P L X : Type 0} (g : page_device.Ghosts P) (old mid new : OpenStore P 
 -- ---- the writes of each call's plan
 
 module _ (s : State) (ws : List SlotWrite) where
-  pub send_writes : (g n tag : ℕ) (body : List ℕ) → g < sender_count s.sizes → AreWritesFor s (Chain (Send g tag body)) ws → AreWritesOf s (λ u. IsSendPlan s.sizes (slots_now s) u g tag body) ws
-  send_writes g n tag body below p = (under_plan n p.0, p.2, subst (AreUnlatched s) p.2 p.1.free, send_plan s g n p.0 below tag body p.1)
+  pub send_writes : (g n tag : ℕ) (body : List ℕ) → g < sender_count s.sizes → AreWritesFor s (Chain (Send g tag body)) ws → AreWritesOf s (λ u. IsSendPlan s.sizes (slots_now s) u g tag body × TakesLowest s u.writes) ws
+  send_writes g n tag body below p = (under_plan n p.0, p.2, subst (AreUnlatched s) p.2 p.1.free, (send_plan s g n p.0 below tag body p.1, p.1.lowest))
 
   pub close_writes : (g n : ℕ) → g < sender_count s.sizes → AreWritesFor s (Chain (Close g)) ws → AreWritesOf s (λ u. IsClosePlan s.sizes (slots_now s) u g) ws
   close_writes g n below p = (under_plan n p.0, p.2, subst (AreUnlatched s) p.2 p.1.free, close_plan s g n p.0 below p.1)

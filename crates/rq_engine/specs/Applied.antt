@@ -1,5 +1,5 @@
 -- What one call makes of an open store: of its lists, of its devices, and of what a crash leaves of them.
-use Rattle.std.specs.Prelude.{◌≡◌, ◌↔◌, ℕ, true, false, Bool, Option, None, Some, Result, Ok, Err, List, slice_set}
+use Rattle.std.specs.Prelude.{◌≡◌, ◌↔◌, ℕ, true, false, Bool, Option, None, Some, Result, Ok, Err, List, length, slice_set}
 use Rattle.rq_model.specs.declared.refusal.Refusal.{Refusal}
 use Rattle.rq_model.specs.declared.refusal.Refusal.TheVariants as why
 use Rattle.rq_model.specs.declared.txn.Sub.{Sub}
@@ -41,7 +41,7 @@ use Rattle.rq_store.specs.Plans.{IsSendPlan, IsTakePlan, WaitsFor}
 use Rattle.rq_sound.specs.Groups.{slots_now}
 use Rattle.rq_engine.specs.Closes.{IsClosePlan}
 use Rattle.rq_engine.specs.Marks.{IsMarkPlan}
-use Rattle.rq_engine.specs.Fixing.{AreWritesOf, HadFrames, HasNoFrames, OnPoolFull}
+use Rattle.rq_engine.specs.Fixing.{AreWritesOf, HadFrames, RefusedForFrames}
 use Rattle.rq_model.specs.Causes.{reads_pages, starts_one, writes_out}
 
 -- what a device that fails in a write leaves of the store: it is stopped; no other call meets such a failure
@@ -166,15 +166,16 @@ LatchedSay honest s _ r = Unit {0}
 -- what a reply tells of frames
 abbrev pub FramesReply : {P L : Type 0} → (MayBePlanned : List SlotWrite → Type 0) → OpenStore P L → Reply → State → Type 0
 FramesReply MayBePlanned old (reply.Started sub) new = HadFrames old sub new
-FramesReply MayBePlanned old (reply.Refused r) new = OnPoolFull (HasNoFrames MayBePlanned old) r
+FramesReply MayBePlanned old (reply.Refused r) new = RefusedForFrames MayBePlanned old r
 FramesReply MayBePlanned old _ new = Unit {0}
 
 -- A start is refused for frames only where those for the pages of some plan of it cannot be had. So they could be had for what is
--- started. Over an honest device the plan is one from the slots as they are, on pages that nobody has latched.
+-- started. It is refused as a page was not written out only where one of those stands in no frame. Over an honest device the plan
+-- is one from the slots as they are, on pages that nobody has latched, and that of a send takes the lowest cell.
 abbrev pub FramesSay : {P L : Type 0} → (honest : Type 0) → OpenStore P L → Event → Reply → State → Type 0
 FramesSay honest old (event.StartSend txn sender tag body) r new =
     FramesReply (λ ws. honest → AreWritesOf old.state
-    (λ u. IsSendPlan old.state.sizes (slots_now old.state) u sender tag body.items) ws) old r new
+    (λ u. IsSendPlan old.state.sizes (slots_now old.state) u sender tag body.items × TakesLowest old.state u.writes) ws) old r new
 FramesSay honest old (event.StartReceive txn) r new =
     FramesReply (λ ws. honest → AreWritesOf old.state
     (λ u. (sender : ℕ) × WaitsFor old.state txn sender × IsTakePlan old.state.sizes (slots_now old.state) u sender) ws) old r new
@@ -257,6 +258,7 @@ pub record Applied {P L : Type 0} (p : page_device.Ghosts P) (l : log_device.Gho
       → LatchedSay (p.honest new.pages) (on earlier old.state) e r
   -- of every store
   pub frames : FramesSay (p.honest new.pages) old e r new.state
+  pub frame_count : length new.frames ≡ length old.frames
   pub sizes : new.state.sizes ≡ old.state.sizes
   -- of the records of which nothing is known nothing is known after it
   pub unknown : unknown new.state.records ≡ unknown old.state.records

@@ -1,5 +1,5 @@
 -- What a call that may read pages, and write others out, makes of an open store.
-use Rattle.std.specs.Prelude.{◌≡◌, ℕ, Bool, true, false, List, Some, Result, Ok, Err, IfErr, IfOk}
+use Rattle.std.specs.Prelude.{◌≡◌, ℕ, Bool, true, false, List, length, Some, Result, Ok, Err, IfErr, IfOk}
 use Rattle.rq_model.specs.Causes.{reads_pages, starts_one}
 use Rattle.rq_model.specs.History.{Call}
 use Rattle.rq_model.specs.declared.refusal.Refusal.{Refusal}
@@ -8,7 +8,7 @@ use Rattle.rq_model.specs.Tests.{NoneHolds, first_of}
 use Rattle.rq_disk.specs.Device.PageAsk.{Reads, Writes}
 use Rattle.rq_disk.specs.declared.device.PageDevice as page_device
 use Rattle.rq_pool.specs.KeptUp.{IsForced, IsKeptUp}
-use Rattle.rq_pool.specs.Fetching.{HasFailed, HasOutside, MayHaveRead}
+use Rattle.rq_pool.specs.Fetching.{AreAllFramed, HasFailed, HasOutside, MayHaveRead}
 use Rattle.rq_pool.specs.Reading.{OnlyRead}
 use Rattle.rq_store.specs.State.{State}
 use Rattle.rq_planner.specs.Lawful.{MayRefuse}
@@ -48,11 +48,11 @@ RefusedButRead c old r new = RefusedBehind (starts_one c) (tested old.state c) o
 
 -- How often the pages' device has failed where a call was refused: once more where it is told that a page was not read, or not
 -- written out, else as often as before. A page that was not read stood in no frame. One that was not written out still counts as
--- changed, and its last record is forced.
+-- changed, and its last record is forced; it was to make way, as some page stood in no frame.
 abbrev pub RefusalCounts : {P L : Type 0} → page_device.Ghosts P → Refusal → OpenStore P L → OpenStore P L → Type 0
 RefusalCounts g why.DiskRead old new = (out : HasOutside (pooled old)) × HasFailed g (Reads out.page) old.pages new.pages
 RefusalCounts g why.DiskWrite old new = (page : ℕ) × (image : List ℕ) × IsForced g old.state.forced (pooled new) page image
-    × HasFailed g (Writes page image) old.pages new.pages
+    × HasFailed g (Writes page image) old.pages new.pages × HasOutside (pooled old)
 RefusalCounts g _ old new = g.faults new.pages ≡ g.faults old.pages
 
 abbrev pub AnswerCounts : {P L X : Type 0} → page_device.Ghosts P → Result X Refusal → OpenStore P L → OpenStore P L → Type 0
@@ -63,10 +63,15 @@ abbrev pub ReplyCounts : {P L : Type 0} → page_device.Ghosts P → Reply → O
 ReplyCounts g (reply.Refused r) old new = RefusalCounts g r old new
 ReplyCounts g _ old new = g.faults new.pages ≡ g.faults old.pages
 
--- The devices of a store of which pages were read, and others written out. The log's is left alone.
+-- no page is read or written out where each stands in a frame
+abbrev pub StayWhereFramed : {P L : Type 0} → OpenStore P L → OpenStore P L → Type 0
+StayWhereFramed old new = AreAllFramed (pooled old) → (new.pages ≡ old.pages) × (new.changed ≡ old.changed)
+    × (new.state.images ≡ old.state.images)
+
+-- The devices of a store of which pages were read, and others written out. The log's is left alone, and it keeps its number of frames.
 abbrev pub KeepsDevices : {P L : Type 0} → page_device.Ghosts P → OpenStore P L → OpenStore P L → Type 0
 KeepsDevices g old new = IsKeptUp g old.state.forced (pooled old) (pooled new) × (new.log ≡ old.log)
-    × (new.replacing ≡ old.replacing)
+    × (new.replacing ≡ old.replacing) × (length new.frames ≡ length old.frames) × StayWhereFramed old new
 
 -- Pages of a store were perhaps read, and nothing else happened, whatever the device gave of them.
 pub record HasReadPages {P L : Type 0} (g : page_device.Ghosts P) (old new : OpenStore P L) : Type 0 where
@@ -130,6 +135,7 @@ OnRead false honest told = told
 -- the pages' device as a call leaves it that may read pages and write others out, and as any other does
 abbrev pub PagesStay : {P L : Type 0} → Bool → page_device.Ghosts P → OpenStore P L → Reply → OpenStore P L → Type 0
 PagesStay true g old r new = IsKeptUp g old.state.forced (pooled old) (pooled new) × ReplyCounts g r old new
+    × StayWhereFramed old new
 PagesStay false g old r new = new.pages ≡ old.pages
 
 -- and which pages count as changed: those that are written out do no more, which is said with them
@@ -137,6 +143,8 @@ abbrev pub ChangesStay : {P L : Type 0} → Bool → OpenStore P L → OpenStore
 ChangesStay true old new = Unit {0}
 ChangesStay false old new = new.changed ≡ old.changed
 
--- A content is shown of pages that are read: the device reads as before, and a crash leaves nothing more of it.
+-- A content is shown of pages that are read: the device reads as before, and a crash leaves nothing more of it. It is not called
+-- where each page stands in a frame.
 abbrev pub IsShown : {P L : Type 0} → page_device.Ghosts P → OpenStore P L → OpenStore P L → Type 0
 IsShown g old new = IsKeptUp g old.state.forced (pooled old) (pooled new) × OnlyRead g old.pages new.pages
+    × StayWhereFramed old new

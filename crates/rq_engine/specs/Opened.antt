@@ -31,10 +31,10 @@ pub record OpenStore (P L : Type 0) : Type 0 where
 abbrev pub AreHonest : {P L : Type 0} → page_device.Ghosts P → log_device.Ghosts L → OpenStore P L → Type 0
 AreHonest p l s = p.honest s.pages × l.honest s.log
 
--- A call that needs no device leaves them alone, and which pages count as changed.
+-- A call that needs no device leaves them alone, and which pages count as changed. The store keeps its number of frames.
 abbrev pub LeavesDevices : {P L : Type 0} → OpenStore P L → OpenStore P L → Type 0
 LeavesDevices old new = (new.pages ≡ old.pages) × (new.log ≡ old.log) × (new.changed ≡ old.changed)
-    × (new.replacing ≡ old.replacing)
+    × (new.replacing ≡ old.replacing) × (length new.frames ≡ length old.frames)
 
 -- its pages
 abbrev pub pooled : {P L : Type 0} → OpenStore P L → Pooled P

@@ -1,5 +1,5 @@
 //! Events and their replies.
-ghost use Rattle.std.specs.Prelude.{◌≡◌, ◌↔◌, ℕ, map, true, false, Err, IfErr, OnOk, List};
+ghost use Rattle.std.specs.Prelude.{◌≡◌, ◌↔◌, ℕ, length, map, true, false, Err, IfErr, OnOk, List};
 ghost use Rattle.rq_model.specs.History.Call.{Show};
 ghost use Rattle.rq_model.specs.Replay.Reply.{Gave_content};
 ghost use Rattle.rq_log.specs.Crash.{LeavesOnly};
@@ -48,6 +48,7 @@ impl<P: PageDevice, L: LogDevice, B: Level> Engine<P, L, B> {
         ensures pages { IsShown P.PageDevice self.old self.new }
         ensures faults { AnswerCounts P.PageDevice result self.old self.new }
         ensures changed { self.new.changed ≡ self.old.changed }
+        ensures count { length self.new.frames ≡ length self.old.frames }
         ensures log { self.new.log ≡ self.old.log }
         ensures replacing { self.new.replacing ≡ self.old.replacing }
         ensures refused { IfErr result (λ r. RefusedButRead Show self.old r self.new) }
@@ -90,6 +91,7 @@ impl<P: PageDevice, L: LogDevice, B: Level> Engine<P, L, B> {
             → IsSound (on e self.old.state) → RefusedForCause (on e self.old.state) event.now result }
         // What stays, and an answer that changes one thing.
         ensures sizes { self.new.state.sizes ≡ self.old.state.sizes }
+        ensures count { length self.new.frames ≡ length self.old.frames }
         ensures forced { (lsn : ℕ) → result ≡ Reply.Forced lsn → self.new.state.forced ≡ lsn }
         // What each device is left as.
         ensures writes { WritesSay self.old event.now result }

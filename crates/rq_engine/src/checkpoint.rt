@@ -37,6 +37,7 @@ impl<P: PageDevice, L: LogDevice, B: Level> Engine<P, L, B> {
         ensures refused { IfErr result (λ r. NotCheckpointed P.PageDevice L.LogDevice self.old self.new r) }
         ensures failed { (result ≡ Err Refusal.Failed) ↔ (self.old.state.failed ≡ true) }
         // What stays; and what a crash at any moment leaves.
+        ensures count { length self.new.frames ≡ length self.old.frames }
         ensures honest { AreHonest P.PageDevice L.LogDevice self.new → AreHonest P.PageDevice L.LogDevice self.old }
         ensures any_moment { self.old.replacing ≡ false → L.honest self.new.log → LeavesOnly L.LogDevice self.old.log self.new.log
             (IsBeginningOrBase self.old.state.records self.old.state.forced) }
@@ -81,6 +82,7 @@ impl<P: PageDevice, L: LogDevice, B: Level> Engine<P, L, B> {
         ensures cause { CountsFailure P.PageDevice L.LogDevice self.old self.new result }
         ensures fewer { HasFewer self.old.changed self.new.changed }
         ensures behind { (page : ℕ) → page_count self.old.state.sizes ≤ page → KeepsPage P.PageDevice self.old.pages self.new.pages page }
+        ensures count { length self.new.frames ≡ length self.old.frames }
         ensures honest { AreHonest P.PageDevice L.LogDevice self.new → AreHonest P.PageDevice L.LogDevice self.old }
         ensures any_moment { self.old.replacing ≡ false → L.honest self.new.log → LeavesOnly L.LogDevice self.old.log self.new.log
             (IsBeginningOrBase self.old.state.records self.old.state.forced) }
@@ -103,6 +105,7 @@ impl<P: PageDevice, L: LogDevice, B: Level> Engine<P, L, B> {
         ensures cause { CountsFailure P.PageDevice L.LogDevice self.old self.new result }
         ensures fewer { HasFewer self.old.changed self.new.changed }
         ensures replacing { self.new.replacing ≡ self.old.replacing }
+        ensures count { length self.new.frames ≡ length self.old.frames }
         ensures honest { AreHonest P.PageDevice L.LogDevice self.new → AreHonest P.PageDevice L.LogDevice self.old }
         ensures any_moment { self.old.replacing ≡ false → L.honest self.new.log → LeavesOnly L.LogDevice self.old.log self.new.log
             (IsBeginning self.old.state.records self.old.state.forced) }
@@ -128,6 +131,7 @@ impl<P: PageDevice, L: LogDevice, B: Level> Engine<P, L, B> {
         ensures fewer { HasFewer self.old.changed self.new.changed }
         ensures log { self.new.log ≡ self.old.log }
         ensures replacing { self.new.replacing ≡ self.old.replacing }
+        ensures count { length self.new.frames ≡ length self.old.frames }
         ensures honest { P.honest self.new.pages → P.honest self.old.pages }
         ensures fit { KeepsFit P.PageDevice L.LogDevice self.old self.new }
     {
@@ -150,6 +154,7 @@ impl<P: PageDevice, L: LogDevice, B: Level> Engine<P, L, B> {
         ensures changed { self.new.changed ≡ self.old.changed }
         ensures log { self.new.log ≡ self.old.log }
         ensures replacing { self.new.replacing ≡ self.old.replacing }
+        ensures count { length self.new.frames ≡ length self.old.frames }
         ensures honest { P.honest self.new.pages → P.honest self.old.pages }
         ensures fit { KeepsFit P.PageDevice L.LogDevice self.old self.new }
     {
@@ -175,6 +180,7 @@ impl<P: PageDevice, L: LogDevice, B: Level> Engine<P, L, B> {
         ensures cause { CountsFailure P.PageDevice L.LogDevice self.old self.new result }
         ensures device { self.new.pages ≡ self.old.pages }
         ensures changed { self.new.changed ≡ self.old.changed }
+        ensures count { length self.new.frames ≡ length self.old.frames }
         ensures honest { L.honest self.new.log → L.honest self.old.log }
         ensures any_moment { self.old.replacing ≡ false → L.honest self.new.log → LeavesOnly L.LogDevice self.old.log self.new.log
             (IsBeginningOrBase self.old.state.records self.old.state.forced) }

@@ -18,7 +18,7 @@ ghost use Rattle.rq_engine.specs.Lists.{IsCloseBegun, IsCloseStarted};
 ghost use Rattle.rq_engine.specs.Tested.{tested};
 ghost use Rattle.rq_engine.specs.Closes.{IsClosePlan};
 ghost use Rattle.rq_sound.specs.Groups.{slots_now};
-ghost use Rattle.rq_engine.specs.Fixing.{AreWritesOf, HadFrames, HasNoFrames, OnPoolFull};
+ghost use Rattle.rq_engine.specs.Fixing.{AreWritesOf, HadFrames, RefusedForFrames};
 
 use crate::engine::Engine;
 use rq_disk::{LogDevice, PageDevice};
@@ -45,8 +45,8 @@ impl<P: PageDevice, L: LogDevice, B: Level> Engine<P, L, B> {
         ensures latched { (e : List Record) → IsEarlier e self.old.state → IsSound (on e self.old.state)
             → StartsUnlatched (on e self.old.state) (Start_close txn sender) result }
         ensures frames { IfOk result (λ sub. HadFrames self.old sub self.new.state) }
-        ensures full { IfErr result (OnPoolFull (HasNoFrames (λ ws. P.honest self.new.pages → AreWritesOf self.old.state
-            (λ u. IsClosePlan self.old.state.sizes (slots_now self.old.state) u sender) ws) self.old)) }
+        ensures full { IfErr result (RefusedForFrames (λ ws. P.honest self.new.pages → AreWritesOf self.old.state
+            (λ u. IsClosePlan self.old.state.sizes (slots_now self.old.state) u sender) ws) self.old) }
         ensures devices { KeepsDevices P.PageDevice self.old self.new }
         ensures faults { AnswerCounts P.PageDevice result self.old self.new }
         ensures refused { IfErr result (λ r. RefusedButRead (Start_close txn sender) self.old r self.new) }

@@ -212,6 +212,7 @@ impl<P: PageDevice, L: LogDevice, B: Level> Engine<P, L, B> {
     ghost use Rattle.rq_model.specs.Tests.{log_full};
     ghost use Rattle.rq_model.specs.Tests.{IsUnready};
     ghost use Rattle.rq_model.specs.Tests.{NoneHolds, ready_tests};
+    ghost use Rattle.rq_engine.specs.Frames.{AreFixedAsLatched};
 
     /// For proofs: what a crash at this moment leaves of the log, and of both devices where none has failed to replace it.
     /// It shows too that each record has a spelling, and that a Base is forced. It runs no code.
@@ -229,6 +230,14 @@ impl<P: PageDevice, L: LogDevice, B: Level> Engine<P, L, B> {
             → LeavesCut P.PageDevice L.LogDevice (over e self.now) }
     {
         self.log.shows_kept();
+    }
+
+    /// For proofs: each page behind the superblock is fixed in a frame exactly where an operation under way has latched it, and no
+    /// two have latched the same one. It runs no code.
+    pub fn shows_fixed(&self)
+        ensures { AreFixedAsLatched self.now.state.rows self.now.frames }
+    {
+        let _failed = self.failed;
     }
 
     /// The number of records that are forced. No crash loses one of them.
@@ -345,6 +354,7 @@ impl<P: PageDevice, L: LogDevice, B: Level> Engine<P, L, B> {
         ensures changed { self.new.changed ≡ self.old.changed }
         ensures replacing { self.new.replacing ≡ self.old.replacing }
         ensures pages { self.new.pages ≡ self.old.pages }
+        ensures count { length self.new.frames ≡ length self.old.frames }
         ensures honest { L.honest self.new.log → L.honest self.old.log }
         ensures any_moment { self.old.replacing ≡ false → L.honest self.new.log → LeavesOnly L.LogDevice self.old.log self.new.log
             (IsBeginning self.old.state.records self.old.state.forced) }
@@ -386,6 +396,7 @@ impl<P: PageDevice, L: LogDevice, B: Level> Engine<P, L, B> {
         ensures changed { self.new.changed ≡ self.old.changed }
         ensures replacing { self.new.replacing ≡ self.old.replacing }
         ensures pages { self.new.pages ≡ self.old.pages }
+        ensures count { length self.new.frames ≡ length self.old.frames }
         ensures honest { L.honest self.new.log → L.honest self.old.log }
         ensures any_moment { self.old.replacing ≡ false → L.honest self.new.log → LeavesOnly L.LogDevice self.old.log self.new.log
             (IsBeginning self.old.state.records self.old.state.forced) }

@@ -44,6 +44,7 @@ impl<P: PageDevice, L: LogDevice, B: Level> Engine<P, L, B> {
         ensures refused { IfErr result (λ r. NotMigrated P.PageDevice L.LogDevice pages self.old self.new r) }
         ensures failed { (result ≡ Err Refusal.Failed) ↔ (self.old.state.failed ≡ true) }
         // What stays; and what a crash at any moment leaves.
+        ensures count { length self.new.frames ≡ length self.old.frames }
         ensures honest { AreHonest P.PageDevice L.LogDevice self.new → AreHonest P.PageDevice L.LogDevice self.old }
         ensures any_moment { self.old.replacing ≡ false → L.honest self.new.log → LeavesOnly L.LogDevice self.old.log self.new.log
             (IsBeginningOrBase self.old.state.records self.old.state.forced) }
@@ -86,6 +87,7 @@ impl<P: PageDevice, L: LogDevice, B: Level> Engine<P, L, B> {
         ensures cause { CountsFailure P.PageDevice L.LogDevice self.old self.new result }
         ensures first { (self.new.log ≡ self.old.log) ⊎ AreTagPages P.PageDevice grown.now.tags self.old.state.sizes self.new.pages }
         ensures beyond { KeepsBeyond P.PageDevice grown.now.tags self.old.state.sizes self.old.pages self.new.pages }
+        ensures count { length self.new.frames ≡ length self.old.frames }
         ensures honest { AreHonest P.PageDevice L.LogDevice self.new → AreHonest P.PageDevice L.LogDevice self.old }
         ensures any_moment { self.old.replacing ≡ false → L.honest self.new.log → LeavesOnly L.LogDevice self.old.log self.new.log
             (IsBeginningOrBase self.old.state.records self.old.state.forced) }
@@ -110,6 +112,7 @@ impl<P: PageDevice, L: LogDevice, B: Level> Engine<P, L, B> {
         ensures changed { self.new.changed ≡ self.old.changed }
         ensures log { self.new.log ≡ self.old.log }
         ensures replacing { self.new.replacing ≡ self.old.replacing }
+        ensures count { length self.new.frames ≡ length self.old.frames }
         ensures honest { P.honest self.new.pages → P.honest self.old.pages }
         ensures fit { KeepsFit P.PageDevice L.LogDevice self.old self.new }
     {
@@ -133,6 +136,7 @@ impl<P: PageDevice, L: LogDevice, B: Level> Engine<P, L, B> {
         ensures changed { self.new.changed ≡ self.old.changed }
         ensures log { self.new.log ≡ self.old.log }
         ensures replacing { self.new.replacing ≡ self.old.replacing }
+        ensures count { length self.new.frames ≡ length self.old.frames }
         ensures honest { P.honest self.new.pages → P.honest self.old.pages }
         ensures fit { KeepsFit P.PageDevice L.LogDevice self.old self.new }
     {
@@ -161,6 +165,7 @@ impl<P: PageDevice, L: LogDevice, B: Level> Engine<P, L, B> {
         ensures refused { IfErr result (λ r. IsStopped self.old.state self.new.state r) }
         ensures cause { CountsFailure P.PageDevice L.LogDevice self.old self.new result }
         ensures others { (page : ℕ) → page ≢ 0 → KeepsPage P.PageDevice self.old.pages self.new.pages page }
+        ensures count { length self.new.frames ≡ length self.old.frames }
         ensures honest { AreHonest P.PageDevice L.LogDevice self.new → AreHonest P.PageDevice L.LogDevice self.old }
         ensures honest_log { L.honest self.new.log → L.honest self.old.log }
         ensures any_moment { self.old.replacing ≡ false → L.honest self.new.log → LeavesOnly L.LogDevice self.old.log self.new.log

@@ -37,6 +37,7 @@ impl<P: PageDevice, L: LogDevice, B: Level> Engine<P, L, B> {
         ensures sizes { self.new.state.sizes ≡ self.old.state.sizes }
         ensures devices { (self.new.pages ≡ self.old.pages) × (self.new.log ≡ self.old.log)
             × (self.new.replacing ≡ self.old.replacing) }
+        ensures count { length self.new.frames ≡ length self.old.frames }
         ensures refused { OnErr result (self.new ≡ self.old) }
         ensures failed { (result ≡ Err Refusal.Failed) ↔ (self.old.state.failed ≡ true) }
         ensures changed { IfOk result (λ progress. StepChanges self.old progress self.new) }
@@ -108,6 +109,7 @@ impl<P: PageDevice, L: LogDevice, B: Level> Engine<P, L, B> {
         ensures refused { OnErr result (self.new ≡ self.old) }
         ensures devices { (self.new.pages ≡ self.old.pages) × (self.new.log ≡ self.old.log)
             × (self.new.replacing ≡ self.old.replacing) }
+        ensures count { length self.new.frames ≡ length self.old.frames }
     {
         self.check_running()?;
         let Some(operation) = under_way(&self.transactions, sub) else {

@@ -38,6 +38,7 @@ impl<P: PageDevice, L: LogDevice, B: Level> Engine<P, L, B> {
         ensures device { DeviceAfter P.PageDevice page
             (image_at self.old.state.images page) self.old.pages self.new.pages result }
         // What stays, and refusals.
+        ensures count { length self.new.frames ≡ length self.old.frames }
         ensures honest { P.honest self.new.pages → P.honest self.old.pages }
         ensures log { self.new.log ≡ self.old.log }
         ensures replacing { self.new.replacing ≡ self.old.replacing }

@@ -18,7 +18,7 @@ ghost use Rattle.rq_engine.specs.Sends.{TakesLowest};
 ghost use Rattle.rq_engine.specs.Tested.{tested};
 ghost use Rattle.rq_store.specs.Plans.{IsSendPlan};
 ghost use Rattle.rq_sound.specs.Groups.{slots_now};
-ghost use Rattle.rq_engine.specs.Fixing.{AreWritesOf, HadFrames, HasNoFrames, OnPoolFull};
+ghost use Rattle.rq_engine.specs.Fixing.{AreWritesOf, HadFrames, RefusedForFrames};
 
 use crate::engine::Engine;
 use rq_disk::{LogDevice, PageDevice};
@@ -53,8 +53,9 @@ impl<P: PageDevice, L: LogDevice, B: Level> Engine<P, L, B> {
         ensures latched { P.honest self.new.pages → (e : List Record) → IsEarlier e self.old.state → IsSound (on e self.old.state)
             → StartsUnlatched (on e self.old.state) (Start_send txn (message_of sender tag body.now)) result }
         ensures frames { IfOk result (λ sub. HadFrames self.old sub self.new.state) }
-        ensures full { IfErr result (OnPoolFull (HasNoFrames (λ ws. P.honest self.new.pages → AreWritesOf self.old.state
-            (λ u. IsSendPlan self.old.state.sizes (slots_now self.old.state) u sender tag body.now) ws) self.old)) }
+        ensures full { IfErr result (RefusedForFrames (λ ws. P.honest self.new.pages → AreWritesOf self.old.state
+            (λ u. IsSendPlan self.old.state.sizes (slots_now self.old.state) u sender tag body.now
+            × TakesLowest self.old.state u.writes) ws) self.old) }
         ensures devices { KeepsDevices P.PageDevice self.old self.new }
         ensures faults { AnswerCounts P.PageDevice result self.old self.new }
         ensures refused { IfErr result (λ r. RefusedButRead (Start_send txn (message_of sender tag body.now)) self.old r self.new) }

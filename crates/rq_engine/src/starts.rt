@@ -7,6 +7,7 @@ ghost use Rattle.rq_groups.specs.Sides.{is_free_end};
 ghost use Rattle.rq_planner.specs.Answered.{IsPlanned};
 ghost use Rattle.rq_planner.specs.Asked.{Do, IsTaskOf, Task, task_by};
 ghost use Rattle.rq_planner.specs.Lawful.{IsLawfulPlan, MayRefuse};
+ghost use Rattle.rq_level.specs.Writes.{with_plan};
 ghost use Rattle.rq_sound.specs.Plans.{AreUnlatched};
 ghost use Rattle.rq_engine.specs.Opened.{pooled};
 ghost use Rattle.rq_engine.specs.Frames.{IsForFrames, NotBegun, pages_of};
@@ -28,6 +29,7 @@ use rq_model::refusal::Refusal;
 use rq_model::txn::Txn;
 use rq_record::{COMP_END_BYTES, OP_END_BYTES, PAGE_OP_BYTES};
 use rq_txn::{Aim, Operation, ToldDeed, Transactions};
+use std::mem;
 
 impl<P: PageDevice, L: LogDevice, B: Level> Engine<P, L, B> {
     // Has what is asked planned from the slots as they are. Takes its lock, its frames and all that its steps and its end need, and
@@ -55,31 +57,32 @@ impl<P: PageDevice, L: LogDevice, B: Level> Engine<P, L, B> {
         ensures answered { IsGivenBy P.PageDevice result self.new → BeginsAsPlanned self.old.state (to_job op.now)
             (λ plan. self.new.state ≡ started_with self.old.state txn number end (planned_of op.now.level plan)) result }
     {
-        match self.plan(op) {
-            Ok(plan) => self.start(txn, number, end, op.level(), plan),
+        let mut plan = Plan::new(self.alloc);
+        match self.plan(op, &mut plan) {
+            Ok(()) => self.start(txn, number, end, op.level(), &mut plan),
             Err(refusal) => Err(refusal),
         }
     }
 
-    // What its level plans for an operation that is to be done.
-    fn plan(&mut self, op: &Op) -> Result<Plan, Refusal>
+    // Has an operation planned that is to be done.
+    fn plan(&mut self, op: &Op, plan: &mut Plan) -> Result<(), Refusal>
         requires forward { op.now.undo ≡ false }
         requires asked { is_some (task_by op.now.level op.now.bytes) ≡ true }
         // Whatever the device gave of pages that are read.
         ensures read { HasReadPages P.PageDevice self.old self.new }
         ensures counts { AnswerCounts P.PageDevice result self.old self.new }
         ensures causes { IfErr result MayRefuse }
-        ensures lawful { IfOk result (IsLawfulPlan self.old.state.sizes op.now.level) }
-        ensures free { IfOk result (λ p. AreUnlatched self.old.state p.writes.items) }
-        ensures own { (d : Task) → task_by op.now.level op.now.bytes ≡ Some d → IsOwnPlan self.old.state d result }
+        ensures lawful { IfOk (with_plan plan.new result) (IsLawfulPlan self.old.state.sizes op.now.level) }
+        ensures free { IfOk (with_plan plan.new result) (λ p. AreUnlatched self.old.state p.writes.items) }
+        ensures own { (d : Task) → task_by op.now.level op.now.bytes ≡ Some d → IsOwnPlan self.old.state d (with_plan plan.new result) }
         // Of an honest one that did not fail.
-        ensures answered { IsGivenBy P.PageDevice result self.new → LevelsAnswer self.old.state (to_job op.now) result }
+        ensures answered { IsGivenBy P.PageDevice result self.new → LevelsAnswer self.old.state (to_job op.now) (with_plan plan.new result) }
         ensures planned { IsGivenBy P.PageDevice result self.new → (d : Task) → task_by op.now.level op.now.bytes ≡ Some d
-            → IsTaskOf self.old.state.sizes d → IsPlanned (known_part self.old.state) (Do d) result }
+            → IsTaskOf self.old.state.sizes d → IsPlanned (known_part self.old.state) (Do d) (with_plan plan.new result) }
     {
-        let room = self.transactions.spare();
+        plan.writes = self.transactions.spare();
         self.planner
-            .plan(room, &mut self.pages, &self.transactions, op)
+            .plan(&mut self.pages, &self.transactions, op, plan)
     }
 
     // Takes the lock, the frames and the room of an operation that the level of this number planned, and lets it begin. Where that
@@ -90,33 +93,28 @@ impl<P: PageDevice, L: LogDevice, B: Level> Engine<P, L, B> {
         number: u64,
         end: End,
         level: u8,
-        plan: Plan,
+        plan: &mut Plan,
     ) -> Result<(), Refusal>
         requires ready { HasNothingUnderWay self.old.state txn number }
         requires free { is_free_end txn end self.old.state.ends ≡ true }
-        requires lawful { IsLawfulPlan self.old.state.sizes level plan }
-        requires unlatched { AreUnlatched self.old.state plan.writes.items }
-        requires inside { IsDeedOf self.old.state.sizes (planned_of level plan).deed }
-        requires log { HasRoom self.old.state plan.writes.items }
+        requires lawful { IsLawfulPlan self.old.state.sizes level plan.old }
+        requires unlatched { AreUnlatched self.old.state plan.old.writes.items }
+        requires inside { IsDeedOf self.old.state.sizes (planned_of level plan.old).deed }
+        requires log { HasRoom self.old.state plan.old.writes.items }
         ensures started { OnOk result (AreButRead
-            (started_with self.old.state txn number end (planned_of level plan)) self.new.state) }
+            (started_with self.old.state txn number end (planned_of level plan.old)) self.new.state) }
         ensures devices { KeepsDevices P.PageDevice self.old self.new }
         ensures counts { AnswerCounts P.PageDevice result self.old self.new }
         ensures left { IfErr result (λ r. IsLeftBy self.old.state r self.new.state) }
         ensures causes { IfErr result (NotBegun (P.honest self.new.pages)) }
-        ensures frames { IsForFrames (pooled self.old) self.old.state.forced (pages_of plan.writes.items) result }
+        ensures frames { IsForFrames (pooled self.old) self.old.state.forced (pages_of plan.old.writes.items) result }
     {
-        let Plan {
-            writes,
-            deed,
-            reply,
-        } = plan;
-        prove!(deed.as_slice().len() <= DEED_LIMIT);
+        prove!(plan.deed.as_slice().len() <= DEED_LIMIT);
         let operation = Operation {
             number,
-            writes,
+            writes: mem::replace(&mut plan.writes, Vec::new(self.alloc)),
             made: 0,
-            aim: Aim::Doing(ToldDeed::new(level, deed, reply.gist().unwrap())),
+            aim: Aim::Doing(ToldDeed::new(level, plan.deed, plan.reply.gist().unwrap())),
         };
         let Ok(newly) = self.ends.take(txn, end) else {
             return Err(Refusal::NoMemory);

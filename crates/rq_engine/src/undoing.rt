@@ -9,6 +9,7 @@ ghost use Rattle.rq_model.specs.declared.record.Record.{Record as AnyRecord};
 ghost use Rattle.rq_model.specs.Commits.{op_of};
 ghost use Rattle.rq_model.specs.Content.{said};
 ghost use Rattle.rq_engine.specs.KeptUp.{AnswerCounts, HasReadPages, HasTried, IsGivenBy, KeepsDevices, RefusedButRead};
+ghost use Rattle.rq_level.specs.Writes.{with_plan};
 ghost use Rattle.rq_sound.specs.Plans.{AreUnlatched};
 ghost use Rattle.rq_engine.specs.Answers.{AnswersLegally};
 ghost use Rattle.rq_engine.specs.Applied.{TakesUnlatched};
@@ -99,8 +100,9 @@ impl<P: PageDevice, L: LogDevice, B: Level> Engine<P, L, B> {
         ensures answered { IsGivenBy P.PageDevice result self.new → BeginsAsPlanned self.old.state (to_undo (end_of txn done.now))
             (λ plan. self.new.state ≡ turned_back self.old.state txn number done.now plan.writes.items) result }
     {
-        match self.plan_inverse(&op_end_of(txn, done)) {
-            Ok(plan) => {
+        let mut plan = Plan::new(self.alloc);
+        match self.plan_inverse(&op_end_of(txn, done), &mut plan) {
+            Ok(()) => {
                 let operation = Operation {
                     number,
                     writes: plan.writes,
@@ -117,23 +119,23 @@ impl<P: PageDevice, L: LogDevice, B: Level> Engine<P, L, B> {
     }
 
     // The level of the record's deed plans what takes it back. The log holds the record.
-    fn plan_inverse(&mut self, told: &Record) -> Result<Plan, Refusal>
+    fn plan_inverse(&mut self, told: &Record, plan: &mut Plan) -> Result<(), Refusal>
         requires logged { (lsn : ℕ) × IsLogged self.old.state.records lsn told.now }
         requires reads { is_some (deed_back told.now) ≡ true }
         // Whatever the device gave of pages that are read.
         ensures read { HasReadPages P.PageDevice self.old self.new }
         ensures counts { AnswerCounts P.PageDevice result self.old self.new }
         ensures causes { IfErr result MayRefuse }
-        ensures lawful { IfOk result (IsLawfulInverse self.old.state.sizes) }
-        ensures free { IfOk result (λ p. AreUnlatched self.old.state p.writes.items) }
+        ensures lawful { IfOk (with_plan plan.new result) (IsLawfulInverse self.old.state.sizes) }
+        ensures free { IfOk (with_plan plan.new result) (λ p. AreUnlatched self.old.state p.writes.items) }
         ensures few { (d : Deed) → deed_back told.now ≡ Some d
-            → IfOk result (λ plan. length plan.writes.items + 1 ≤ undo_cost (Some (op_of (said d)))) }
+            → IfOk (with_plan plan.new result) (λ plan. length plan.writes.items + 1 ≤ undo_cost (Some (op_of (said d)))) }
         // Of an honest one that did not fail.
-        ensures answered { IsGivenBy P.PageDevice result self.new → LevelsAnswer self.old.state (to_undo told.now) result }
+        ensures answered { IsGivenBy P.PageDevice result self.new → LevelsAnswer self.old.state (to_undo told.now) (with_plan plan.new result) }
         ensures planned { IsGivenBy P.PageDevice result self.new → (d : Deed) → deed_back told.now ≡ Some d → IsDeedOf self.old.state.sizes d
-            → IsPlanned (known_part self.old.state) (Undo d) result }
+            → IsPlanned (known_part self.old.state) (Undo d) (with_plan plan.new result) }
     {
-        let room = self.transactions.spare();
-        self.planner.plan_inverse(self.alloc, room, &mut self.pages, &self.transactions, told)
+        plan.writes = self.transactions.spare();
+        self.planner.plan_inverse(self.alloc, &mut self.pages, &self.transactions, told, plan)
     }
 }

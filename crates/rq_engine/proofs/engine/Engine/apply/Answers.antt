@@ -11,6 +11,7 @@ returns-clause-applied g c =
       cause = told.cause;
       latched = told.latched;
       frames = told.frames;
+      frame_count = told.count;
       sizes = told.sizes;
       unknown = unknown_stay c.args.self.now c.call.new.self c.args.event.now c.call.result _ told.lists told.begun told.refused;
       failed = told.failed;
@@ -37,9 +38,9 @@ returns-clause-applied g c =
 pub returns-clause-no_memory : goal.returns-clause-no_memory
 returns-clause-no_memory g c is =
     let told = c.call.ensures in
-    memory_keeps c.args.self.now c.call.new.self g.P.PageDevice g.L.LogDevice c.args.event.now c.call.result told.pages told.log told.replacing told.changes told.refused is
+    memory_keeps c.args.self.now c.call.new.self g.P.PageDevice g.L.LogDevice c.args.event.now c.call.result told.pages told.log told.replacing told.changes told.count told.refused is
 
 pub returns-clause-content : goal.returns-clause-content
 returns-clause-content g c is =
     let told = c.call.ensures in
-    content_keeps c.args.self.now c.call.new.self g.P.PageDevice g.L.LogDevice c.args.event.now c.call.result is told.lists told.begun told.pages told.log told.replacing told.changes
+    content_keeps c.args.self.now c.call.new.self g.P.PageDevice g.L.LogDevice c.args.event.now c.call.result is told.lists told.begun told.pages told.log told.replacing told.changes told.count

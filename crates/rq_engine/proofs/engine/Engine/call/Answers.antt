@@ -3,11 +3,16 @@ use Rattle.rq_engine.specs.Says.{call_of}
 use Rattle.rq_engine.specs.declared.event.Event.{Event}
 use Rattle.rq_model.specs.Causes.{reads_pages, writes_out}
 use Rattle.rq_engine.proofs.Applying.{not_leaves}
+use Rattle.rq_engine.specs.Fixing.{AreWritesOf, RefusedForFrames}
 use Rattle.rq_engine.specs.KeptUp.{RefusedButRead}
+use Rattle.rq_engine.specs.Sends.{TakesLowest}
+use Rattle.rq_level.specs.declared.writes.SlotWrite.{SlotWrite}
+use Rattle.rq_sound.specs.Groups.{slots_now}
+use Rattle.rq_store.specs.Plans.{IsSendPlan}
 use Rattle.rq_model.specs.History.Call.{Start_send}
 use Rattle.rq_model.specs.Vocabulary.{message_of}
 use Rattle.rq_engine.proofs.Leaving.{plain_leaves, begun_leaves, take_begins, take_counts, undo_begins, undo_counts, undo_leaves}
-use Rattle.rq_engine.proofs.Listing.{begun_answered, take_lists, take_from_lists, log_left, undo_answered, undo_lists}
+use Rattle.rq_engine.proofs.Listing.{begun_answered, begun_caused, begun_latched, take_lists, take_from_lists, log_left, undo_answered, undo_latched, undo_lists}
 use Rattle.rq_engine.proofs.Wanting.{begun_frames, undo_frames}
 use Rattle.rq_engine.proofs.engine.Engine.call.Goals as goal
 
@@ -100,13 +105,13 @@ pub returns-in-UndoNext-clause-begun : goal.returns-in-UndoNext-clause-begun
 returns-in-UndoNext-clause-begun g c = rw (c.in-UndoNext.is) (undo_begins c.args.self.now c.undo_next.new.self _ c.undo_next.result _ c.undo_next.ensures.begun c.undo_next.ensures.none c.undoing.ensures)
 
 pub returns-in-StartReceive-clause-pages : goal.returns-in-StartReceive-clause-pages
-returns-in-StartReceive-clause-pages g c = rw (c.in-StartReceive.is) (c.start_receive.ensures.devices.0, take_counts c.args.self.now c.start_receive.new.self g.P.PageDevice c.start_receive.result _ c.start_receive.ensures.faults c.receive_reply.ensures)
+returns-in-StartReceive-clause-pages g c = rw (c.in-StartReceive.is) (c.start_receive.ensures.devices.0, take_counts c.args.self.now c.start_receive.new.self g.P.PageDevice c.start_receive.result _ c.start_receive.ensures.faults c.receive_reply.ensures, c.start_receive.ensures.devices.4)
 
 pub returns-in-StartReceiveFrom-clause-pages : goal.returns-in-StartReceiveFrom-clause-pages
-returns-in-StartReceiveFrom-clause-pages g c = rw (c.in-StartReceiveFrom.is) (c.start_receive_from.ensures.devices.0, take_counts c.args.self.now c.start_receive_from.new.self g.P.PageDevice c.start_receive_from.result _ c.start_receive_from.ensures.faults c.receive_reply-in-StartReceiveFrom.ensures)
+returns-in-StartReceiveFrom-clause-pages g c = rw (c.in-StartReceiveFrom.is) (c.start_receive_from.ensures.devices.0, take_counts c.args.self.now c.start_receive_from.new.self g.P.PageDevice c.start_receive_from.result _ c.start_receive_from.ensures.faults c.receive_reply-in-StartReceiveFrom.ensures, c.start_receive_from.ensures.devices.4)
 
 pub returns-in-UndoNext-clause-pages : goal.returns-in-UndoNext-clause-pages
-returns-in-UndoNext-clause-pages g c = rw (c.in-UndoNext.is) (c.undo_next.ensures.devices.0, undo_counts c.args.self.now c.undo_next.new.self g.P.PageDevice c.undo_next.result _ c.undo_next.ensures.faults c.undoing.ensures)
+returns-in-UndoNext-clause-pages g c = rw (c.in-UndoNext.is) (c.undo_next.ensures.devices.0, undo_counts c.args.self.now c.undo_next.new.self g.P.PageDevice c.undo_next.result _ c.undo_next.ensures.faults c.undoing.ensures, c.undo_next.ensures.devices.4)
 
 pub returns-in-StartReceive-clause-frames : goal.returns-in-StartReceive-clause-frames
 returns-in-StartReceive-clause-frames g c = rw (c.in-StartReceive.is) (begun_frames _ c.args.self.now c.start_receive.new.self.state c.start_receive.result _ c.start_receive.ensures.frames c.receive_reply.ensures)
@@ -116,3 +121,36 @@ returns-in-StartReceiveFrom-clause-frames g c = rw (c.in-StartReceiveFrom.is) (b
 
 pub returns-in-UndoNext-clause-frames : goal.returns-in-UndoNext-clause-frames
 returns-in-UndoNext-clause-frames g c = rw (c.in-UndoNext.is) (undo_frames _ c.args.self.now c.undo_next.new.self.state c.undo_next.result _ c.undo_next.ensures.frames c.undoing.ensures)
+
+pub returns-in-Err-start_send-clause-frames : goal.returns-in-Err-start_send-clause-frames
+returns-in-Err-start_send-clause-frames g c =
+    let s = c.args.self.now.state in
+    rw (c.in-StartSend.is) (subst (λ (b : List ℕ). RefusedForFrames (λ (ws : List SlotWrite). g.P.PageDevice.honest c.start_send.new.self.pages → AreWritesOf s (λ u. IsSendPlan s.sizes (slots_now s) u c.in-StartSend.sender c.in-StartSend.tag b × TakesLowest s u.writes) ws) c.args.self.now c.in-Err-start_send.refusal) c.deref.ensures.value c.in-Err-start_send.ensures.full)
+
+pub returns-in-Err-start_close-clause-frames : goal.returns-in-Err-start_close-clause-frames
+returns-in-Err-start_close-clause-frames g c = rw (c.in-StartClose.is) c.in-Err-start_close.ensures.full
+
+pub returns-in-Err-start_mark-clause-frames : goal.returns-in-Err-start_mark-clause-frames
+returns-in-Err-start_mark-clause-frames g c = rw (c.in-StartMark.is) c.in-Err-start_mark.ensures.full
+
+pub returns-in-Err-start_send-clause-any_moment : goal.returns-in-Err-start_send-clause-any_moment
+returns-in-Err-start_send-clause-any_moment g c =
+    λ none. rw (c.in-StartSend.is) (log_left g.L.LogDevice c.args.self.now.log c.start_send.new.self.log _ c.start_send.ensures.devices.1 g.met.L.LogDevice.only_now (c.shows_kept.ensures.leaves none))
+
+pub returns-in-Err-migrate-clause-any_moment : goal.returns-in-Err-migrate-clause-any_moment
+returns-in-Err-migrate-clause-any_moment g c = rw (c.in-Migrate.is) c.migrate.ensures.any_moment
+
+pub returns-in-StartReceive-clause-cause : goal.returns-in-StartReceive-clause-cause
+returns-in-StartReceive-clause-cause g c = begun_caused g.P.PageDevice g.L.LogDevice c.args.self.now _ c.start_receive.result _ c.args.event.now c.start_receive.new.self (ap call_of c.in-StartReceive.is) c.start_receive.ensures.answered c.receive_reply.ensures
+
+pub returns-in-StartReceiveFrom-clause-cause : goal.returns-in-StartReceiveFrom-clause-cause
+returns-in-StartReceiveFrom-clause-cause g c = begun_caused g.P.PageDevice g.L.LogDevice c.args.self.now _ c.start_receive_from.result _ c.args.event.now c.start_receive_from.new.self (ap call_of c.in-StartReceiveFrom.is) c.start_receive_from.ensures.answered c.receive_reply-in-StartReceiveFrom.ensures
+
+pub returns-in-StartReceive-clause-latched : goal.returns-in-StartReceive-clause-latched
+returns-in-StartReceive-clause-latched g c earlier long sound = rw (c.in-StartReceive.is) (λ honest. begun_latched _ _ c.start_receive.result _ (c.start_receive.ensures.latched honest earlier long sound) c.receive_reply.ensures)
+
+pub returns-in-StartReceiveFrom-clause-latched : goal.returns-in-StartReceiveFrom-clause-latched
+returns-in-StartReceiveFrom-clause-latched g c earlier long sound = rw (c.in-StartReceiveFrom.is) (λ honest. begun_latched _ _ c.start_receive_from.result _ (c.start_receive_from.ensures.latched honest earlier long sound) c.receive_reply-in-StartReceiveFrom.ensures)
+
+pub returns-in-UndoNext-clause-latched : goal.returns-in-UndoNext-clause-latched
+returns-in-UndoNext-clause-latched g c earlier long sound = rw (c.in-UndoNext.is) (λ honest. undo_latched _ _ c.undo_next.result _ (c.undo_next.ensures.latched honest earlier long sound) c.undoing.ensures)

@@ -60,6 +60,7 @@ returns-in-Err g c =
       made = tt;
       refused = why;
       failed = search rules;
+      count = search rules;
       honest = search rules;
       any_moment = search rules;
       fit = forgets g.P.PageDevice g.L.LogDevice c.args.self.now mid new c.in-Err.refusal (search rules) (search rules) why c.in-Err.ensures.fit;

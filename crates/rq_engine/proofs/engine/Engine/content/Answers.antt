@@ -1,14 +1,15 @@
-use Rattle.std.proofs.Common.{rules, map, refl, sym, ap, subst, ◌∙◌}
+use Rattle.std.proofs.Common.{List, length, rules, map, refl, sym, ap, subst, ◌∙◌}
 use Rattle.rq_content.specs.Read.{group_of}
 use Rattle.rq_txn.specs.Rows.{any_under}
 use Rattle.rq_model.specs.History.Call.{Show}
+use Rattle.rq_pool.specs.Held.{Held}
 use Rattle.rq_model.specs.Replay.Reply.{Gave_content, Gave_refusal}
 use Rattle.rq_sound.specs.ModelSteps.{IsModelStep}
 use Rattle.rq_store.specs.State.{State}
 use Rattle.rq_engine.proofs.Calls.{content_done, content_busy, content_refused}
 use Rattle.rq_planner.proofs.Readings.{knows_read}
 use Rattle.rq_engine.proofs.Keeping.{kept_read}
-use Rattle.rq_engine.proofs.KeptUp.{content_counts, content_leaves}
+use Rattle.rq_engine.proofs.KeptUp.{content_counts, content_leaves, pages_stay}
 use Rattle.rq_engine.proofs.Tested.{show_busy, show_failed}
 use Rattle.rq_engine.specs.Tested.{tested}
 use Rattle.rq_engine.proofs.Opened.{state_is}
@@ -87,4 +88,7 @@ returns-clause-shown g c =
     ]
 
 pub returns-clause-pages : goal.returns-clause-pages
-returns-clause-pages g c = rw (← c.self.view_is) (c.content.ensures.read.kept _, c.content.ensures.read.device)
+returns-clause-pages g c = rw (← c.self.view_is) (c.content.ensures.read.kept _, c.content.ensures.read.device, λ all. pages_stay c.self.inside.pages c.content.new.pages (c.content.ensures.read.stood all))
+
+pub returns-clause-count : goal.returns-clause-count
+returns-clause-count g c = rw (← c.self.view_is) (ap (λ (l : List Held). length l) c.content.ensures.read.frames)

@@ -1,6 +1,6 @@
 use Rattle.std.proofs.Common.{◌≡◌, ◌+◌, ◌*◌, ℕ, Err, List, true, ap, length, refl, subst, sym, ◌∙◌}
 use Rattle.rq_pool.specs.Held.{IsFixed}
-use Rattle.rq_pool.specs.Want.{NoneFixed, StayFixed, among}
+use Rattle.rq_pool.specs.Want.{AreOfStore, NoneFixed, StayFixed, among}
 use Rattle.rq_pool.proofs.KeptUp.{kept_still, kept_then}
 use Rattle.rq_sound.specs.Plans.{AreUnlatched}
 use Rattle.rq_store.specs.State.{State}
@@ -12,7 +12,7 @@ use Rattle.rq_engine.specs.Invariant.{end_bytes}
 use Rattle.rq_engine.specs.Sends.{FitsUnder, HasRoom}
 use Rattle.rq_engine.proofs.Frames.{fixed_left, fixed_start, none_fixed, pages_stored, stay_then}
 use Rattle.rq_engine.proofs.Keeping.{kept_device, kept_read}
-use Rattle.rq_engine.proofs.KeptUp.{knows_kept_up, not_failed_by, not_fixed_counts, not_fixed_frames}
+use Rattle.rq_engine.proofs.KeptUp.{knows_kept_up, not_failed_by, not_fixed_counts, not_fixed_frames, stay_framed}
 use Rattle.rq_engine.proofs.SendCalls.{start_kept}
 use Rattle.rq_engine.proofs.Opened.{state_is}
 use Rattle.rq_engine.proofs.engine.Engine.launch.Goals as goal
@@ -81,21 +81,43 @@ invariant_of-self-in-Err-enlist g c =
     }
 
 pub returns-in-Err-clause-devices : goal.returns-in-Err-clause-devices
-returns-in-Err-clause-devices g c = rw (← c.self.view_is) (rw (← c.forced.ensures) c.fix_all.ensures.kept, refl, refl)
+returns-in-Err-clause-devices g c =
+    let fits = subst (λ (s : State). FitsUnder s.sizes (under_of c.args.operation)) (sym (state_is c.self.view_is)) c.requires.fits in
+    let of_store : AreOfStore c.self.inside.pages.sizes c.as_slice.result.now = rw (c.as_slice.ensures, c.of-pages.ensures, c.deref.ensures.value) (pages_stored c.self.inside.pages.sizes c.args.operation.writes.items fits.slots) in
+    rw (← c.self.view_is) (
+      rw (← c.forced.ensures) c.fix_all.ensures.kept,
+      refl,
+      refl,
+      c.fix_all.ensures.count,
+      λ all. (let s = stay_framed c.as_slice.result.now c.self.inside.pages c.fix_all.new.self of_store c.fix_all.ensures.stood all in (s.device, s.changed, s.images)),
+    )
 
 pub returns-in-Err-clause-counts : goal.returns-in-Err-clause-counts
 returns-in-Err-clause-counts g c = rw (← c.self.view_is) (not_fixed_counts g.P.PageDevice c.as_slice.result.now _ _ c.in-Err.refusal (rw (← c.forced.ensures) c.in-Err.ensures.refused))
 
 pub returns-in-Ok-enlist-clause-devices : goal.returns-in-Ok-enlist-clause-devices
-returns-in-Ok-enlist-clause-devices g c = rw (← c.self.view_is, c.in-Ok-enlist.ensures.log) (rw (← c.forced.ensures) c.fix_all.ensures.kept, refl, refl)
+returns-in-Ok-enlist-clause-devices g c =
+    let fits = subst (λ (s : State). FitsUnder s.sizes (under_of c.args.operation)) (sym (state_is c.self.view_is)) c.requires.fits in
+    let of_store : AreOfStore c.self.inside.pages.sizes c.as_slice.result.now = rw (c.as_slice.ensures, c.of-pages.ensures, c.deref.ensures.value) (pages_stored c.self.inside.pages.sizes c.args.operation.writes.items fits.slots) in
+    rw (← c.self.view_is, c.in-Ok-enlist.ensures.log) (
+      rw (← c.forced.ensures) c.fix_all.ensures.kept,
+      refl,
+      refl,
+      c.fix_all.ensures.count,
+      λ all. (let s = stay_framed c.as_slice.result.now c.self.inside.pages c.fix_all.new.self of_store c.fix_all.ensures.stood all in (s.device, s.changed, s.images)),
+    )
 
 pub returns-in-Err-enlist-clause-devices : goal.returns-in-Err-enlist-clause-devices
 returns-in-Err-enlist-clause-devices g c =
     let still = c.let_all.ensures.still in
+    let fits = subst (λ (s : State). FitsUnder s.sizes (under_of c.args.operation)) (sym (state_is c.self.view_is)) c.requires.fits in
+    let of_store : AreOfStore c.self.inside.pages.sizes c.as_slice.result.now = rw (c.as_slice.ensures, c.of-pages.ensures, c.deref.ensures.value) (pages_stored c.self.inside.pages.sizes c.args.operation.writes.items fits.slots) in
     rw (← c.self.view_is, c.in-Err-enlist.ensures.refused.0) (
       rw (← c.forced.ensures) (kept_then g.P.PageDevice c.forced.result c.self.inside.pages c.fix_all.new.self c.let_all.new.self c.fix_all.ensures.kept (kept_still g.P.PageDevice c.forced.result c.fix_all.new.self c.let_all.new.self still.device still.sizes still.images still.changed)),
       refl,
       refl,
+      c.let_all.ensures.count ∙ c.fix_all.ensures.count,
+      λ all. (let s = stay_framed c.as_slice.result.now c.self.inside.pages c.fix_all.new.self of_store c.fix_all.ensures.stood all in (still.device ∙ s.device, still.changed ∙ s.changed, still.images ∙ s.images)),
     )
 
 pub returns-in-Err-clause-frames : goal.returns-in-Err-clause-frames

@@ -2,6 +2,7 @@ use Rattle.std.proofs.Common.{ℕ, ◌≤◌, ◌<◌, length, ◌≡◌, ◌+�
 use Rattle.rq_store.specs.State.{State}
 use Rattle.rq_txn.specs.Rows.{change_row, row_stepped}
 use Rattle.rq_page.specs.Sizes.{Sizes, page_count}
+use Rattle.rq_pool.specs.Held.{Held}
 use Rattle.rq_page.specs.Pages.{IsWritten}
 use Rattle.rq_page.specs.Formatted.{IsFormatted, IsHeaderOf}
 use Rattle.rq_page.specs.Slots.{IsSlotOf, held_in}
@@ -10,6 +11,7 @@ use Rattle.rq_views.specs.Stored.{slots_in}
 use Rattle.rq_store.specs.Fitting.{image_in}
 use Rattle.rq_store.specs.Steps.{IsPutIn, page_op}
 use Rattle.rq_engine.specs.Answers.{IsUnderWay}
+use Rattle.rq_engine.specs.Opened.{OpenStore}
 use Rattle.rq_engine.proofs.Calls.{Next, MakesNext, under_is, going_range, going_owed, next_slot, next_room, next_more, next_kept}
 use Rattle.rq_planner.proofs.Knowing.{knows_put}
 use Rattle.rq_engine.proofs.Opened.{state_is, changed_is}
@@ -106,3 +108,6 @@ returns-clause-changed g c = (
   c.set_slot.ensures.page.lsn,
   c.set_slot.ensures.changed ∙ ap (λ (b : List Bool). slice_set b (c.in-Some-next_write.write.now.at / 16) true) (changed_is c.self.view_is),
 )
+
+pub returns-clause-count : goal.returns-clause-count
+returns-clause-count g c = ap (λ (l : List Held). length l) c.set_slot.ensures.frames.0 ∙ ap (λ (o : OpenStore _ _). length o.frames) c.self.view_is

@@ -2,6 +2,7 @@ use Rattle.std.proofs.Common.{IfOk, List, inr, length, refl, subst}
 use Rattle.std.proofs.lemmas.Result.{IfOk-weaker}
 use Rattle.rq_views.specs.InStore.{IsDeedOf}
 use Rattle.rq_level.specs.Asked.{job_back}
+use Rattle.rq_level.specs.Writes.{with_plan}
 use Rattle.rq_txn.specs.Rows.{Row}
 use Rattle.rq_store.specs.State.{State}
 use Rattle.rq_planner.specs.Answered.{IsAnsweredBack, IsPlanned, level_back}
@@ -33,38 +34,38 @@ pub invariant_of-self : goal.invariant_of-self
 invariant_of-self g c =
     let read = c.plan_inverse.ensures.read.read in
     record {
-      kept = rw (c.spare-room.ensures, (read.kept 0).sizes) (kept_read c.plan_inverse.new.pages.images c.self.invariant.kept);
+      kept = rw (c.spare.ensures, (read.kept 0).sizes) (kept_read c.plan_inverse.new.pages.images c.self.invariant.kept);
       durable = c.self.invariant.durable;
       cells = rw (c.plan_inverse.ensures.same) (knows_read g.P.PageDevice c.self.inside.pages c.plan_inverse.new.pages c.self.inside.planner read c.self.invariant.cells);
-      frames_are = rw (c.spare-room.ensures, read.frames) c.self.invariant.frames_are;
+      frames_are = rw (c.spare.ensures, read.frames) c.self.invariant.frames_are;
     }
 
 pub returns-clause-answered : goal.returns-clause-answered
 returns-clause-answered g c given =
-    subst (λ (s : State). LevelsAnswer s (to_undo c.args.told.now) c.plan_inverse.result) (state_is c.self.view_is) (record {
+    subst (λ (s : State). LevelsAnswer s (to_undo c.args.told.now) (with_plan c.plan_inverse.new.plan c.plan_inverse.result)) (state_is c.self.view_is) (record {
       levels = c.self.inside.planner;
       knows = c.self.invariant.cells;
-      answered = subst (λ (rows : List Row). IsAnsweredBack (known_from c.self.inside.pages rows) c.self.inside.planner c.args.told.now c.plan_inverse.result) c.spare-room.ensures (c.plan_inverse.ensures.answered (inr given.0, given.1));
+      answered = subst (λ (rows : List Row). IsAnsweredBack (known_from c.self.inside.pages rows) c.self.inside.planner c.args.told.now (with_plan c.plan_inverse.new.plan c.plan_inverse.result)) c.spare.ensures (c.plan_inverse.ensures.answered (inr given.0, given.1));
     })
 
 pub returns-clause-lawful : goal.returns-clause-lawful
-returns-clause-lawful g c = subst (λ (s : State). IfOk c.plan_inverse.result (IsLawfulInverse s.sizes)) (state_is c.self.view_is) (c.plan_inverse.ensures.lawful c.requires.reads)
+returns-clause-lawful g c = subst (λ (s : State). IfOk (with_plan c.plan_inverse.new.plan c.plan_inverse.result) (IsLawfulInverse s.sizes)) (state_is c.self.view_is) (c.plan_inverse.ensures.lawful c.requires.reads)
 
 pub returns-clause-free : goal.returns-clause-free
 returns-clause-free g c =
-    subst (λ (s : State). IfOk c.plan_inverse.result (λ p. AreUnlatched s p.writes.items)) (state_is c.self.view_is)
-    (subst (λ (rows : List Row). IfOk c.plan_inverse.result (λ p. AreUnlatched (known_from c.self.inside.pages rows) p.writes.items)) c.spare-room.ensures (c.plan_inverse.ensures.free c.requires.reads))
+    subst (λ (s : State). IfOk (with_plan c.plan_inverse.new.plan c.plan_inverse.result) (λ p. AreUnlatched s p.writes.items)) (state_is c.self.view_is)
+    (subst (λ (rows : List Row). IfOk (with_plan c.plan_inverse.new.plan c.plan_inverse.result) (λ p. AreUnlatched (known_from c.self.inside.pages rows) p.writes.items)) c.spare.ensures (c.plan_inverse.ensures.free c.requires.reads))
 
 pub returns-clause-planned : goal.returns-clause-planned
 returns-clause-planned g c given d told =
-    subst (λ (s : State). IsDeedOf s.sizes d → IsPlanned (known_part s) (Undo d) c.plan_inverse.result) (state_is c.self.view_is)
-    (subst (λ (rows : List Row). IsDeedOf c.self.inside.pages.sizes d → IsPlanned (known_from c.self.inside.pages rows) (Undo d) c.plan_inverse.result) c.spare-room.ensures (λ own. c.plan_inverse.ensures.planned (inr given.0, given.1) (Undo d) (asks_back c.args.told.now d told) (has_place c.self.inside.pages.sizes d own)))
+    subst (λ (s : State). IsDeedOf s.sizes d → IsPlanned (known_part s) (Undo d) (with_plan c.plan_inverse.new.plan c.plan_inverse.result)) (state_is c.self.view_is)
+    (subst (λ (rows : List Row). IsDeedOf c.self.inside.pages.sizes d → IsPlanned (known_from c.self.inside.pages rows) (Undo d) (with_plan c.plan_inverse.new.plan c.plan_inverse.result)) c.spare.ensures (λ own. c.plan_inverse.ensures.planned (inr given.0, given.1) (Undo d) (asks_back c.args.told.now d told) (has_place c.self.inside.pages.sizes d own)))
 
 pub returns-clause-read : goal.returns-clause-read
-returns-clause-read g c = plan_reads g.P.PageDevice _ c.args.self.now _ c.self.view_is (rw (c.spare-room.ensures) refl) refl refl c.plan_inverse.ensures.read.read
+returns-clause-read g c = plan_reads g.P.PageDevice _ c.args.self.now _ c.self.view_is (rw (c.spare.ensures) refl) refl refl c.plan_inverse.ensures.read.read
 
 pub returns-clause-counts : goal.returns-clause-counts
 returns-clause-counts g c = plan_counts g.P.PageDevice _ c.args.self.now _ c.self.view_is c.plan_inverse.result c.plan_inverse.ensures.read c.plan_inverse.ensures.causes
 
 pub returns-clause-few : goal.returns-clause-few
-returns-clause-few g c d told = IfOk-weaker c.plan_inverse.result _ _ (λ p few. few_back d (length p.writes.items) few) (c.plan_inverse.ensures.few d told)
+returns-clause-few g c d told = IfOk-weaker (with_plan c.plan_inverse.new.plan c.plan_inverse.result) _ _ (λ p few. few_back d (length p.writes.items) few) (c.plan_inverse.ensures.few d told)

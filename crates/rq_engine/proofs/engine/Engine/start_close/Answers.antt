@@ -121,10 +121,10 @@ returns-clause-full g c =
 
 pub returns-in_err-number-clause-full : goal.returns-in_err-number-clause-full
 returns-in_err-number-clause-full g c =
-    let none = (λ (A : Type 0). no_test_frames A _ c.in_err-number.ensures.refused.plain) in
+    let none = (λ (A B : Type 0). no_test_frames A B _ c.in_err-number.ensures.refused.plain) in
     search (rules, none)
 
 pub returns-in_err-check_close-clause-full : goal.returns-in_err-check_close-clause-full
 returns-in_err-check_close-clause-full g c =
-    let none = (λ (A : Type 0). no_test_frames A _ c.in_err-check_close.ensures.tests) in
+    let none = (λ (A B : Type 0). no_test_frames A B _ c.in_err-check_close.ensures.tests) in
     search (rules, none)

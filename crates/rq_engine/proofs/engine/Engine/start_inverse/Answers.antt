@@ -37,7 +37,7 @@ launch-requires-clause-fits g c =
     record {
       made = refl;
       few = c.in-Ok.ensures.lawful.count;
-      slots = subst (λ (x : State). AreSlotWrites x.sizes c.in-Ok.plan.writes.items) (sym c.in-Ok.ensures.read.lists) c.in-Ok.ensures.lawful.slots;
+      slots = subst (λ (x : State). AreSlotWrites x.sizes c.plan_inverse.new.plan.writes.items) (sym c.in-Ok.ensures.read.lists) c.in-Ok.ensures.lawful.slots;
       sender = kept.sender;
       fits = kept.lsn;
     }
@@ -46,15 +46,15 @@ pub launch-requires-clause-log : goal.launch-requires-clause-log
 launch-requires-clause-log g c =
     let s = c.args.self.now.state in
     let few = c.in-Ok.ensures.few c.args.done.now.deed (ap deed_back c.op_end_of.ensures ∙ c.requires.kept.reads) in
-    subst (λ (x : State). HasRoom x c.in-Ok.plan.writes.items) (sym c.in-Ok.ensures.read.lists) (has_room s c.in-Ok.plan.writes.items (undo_cost (Some (op_done c.args.done.now))) c.requires.log few)
+    subst (λ (x : State). HasRoom x c.plan_inverse.new.plan.writes.items) (sym c.in-Ok.ensures.read.lists) (has_room s c.plan_inverse.new.plan.writes.items (undo_cost (Some (op_done c.args.done.now))) c.requires.log few)
 
 pub launch-requires-clause-unlatched : goal.launch-requires-clause-unlatched
-launch-requires-clause-unlatched g c = subst (λ (x : State). AreUnlatched x c.in-Ok.plan.writes.items) (sym c.in-Ok.ensures.read.lists) c.in-Ok.ensures.free
+launch-requires-clause-unlatched g c = subst (λ (x : State). AreUnlatched x c.plan_inverse.new.plan.writes.items) (sym c.in-Ok.ensures.read.lists) c.in-Ok.ensures.free
 
 pub returns-in-Ok-clause-tried : goal.returns-in-Ok-clause-tried
 returns-in-Ok-clause-tried g c =
     let f = c.args.done.now in
-    let ws = c.in-Ok.plan.writes.items in
+    let ws = c.plan_inverse.new.plan.writes.items in
     tried_planned g.P.PageDevice (g.P.PageDevice.honest c.launch.new.self.pages) c.args.self.now c.plan_inverse.new.self c.launch.new.self (HasBegunBack c.args.self.now.state c.args.txn c.args.number f)
     (change_row c.args.txn (row_started (record { number = c.args.number; writes = ws; made = 0; aim = Undoing f.lsn f.deed }))) (λ ends. ends) (c.in-Ok.ensures.read, c.in-Ok.ensures.counts) (record { writes = ws; state = refl })
     c.launch.result c.launch.ensures.launched c.launch.ensures.devices c.launch.ensures.counts c.launch.ensures.left c.launch.ensures.causes
@@ -67,13 +67,13 @@ returns-in-Ok-clause-started g c honest =
     let s = c.args.self.now.state in
     let f = c.args.done.now in
     let truly = c.launch.ensures.devices.0.honest honest in
-    let is = c.in-Ok.ensures.planned (truly, read_on c.in-Ok.plan) f.deed (ap deed_back c.op_end_of.ensures ∙ c.requires.kept.reads) c.requires.kept.sender in
-    let p : IsPlanBack (known_part s) f.deed c.in-Ok.plan = is.plan in
+    let is = c.in-Ok.ensures.planned (truly, read_on _) f.deed (ap deed_back c.op_end_of.ensures ∙ c.requires.kept.reads) c.requires.kept.sender in
+    let p : IsPlanBack (known_part s) f.deed c.plan_inverse.new.plan = is.plan in
     start_answered s (Undo f.deed) (HasTurnedBack s c.args.txn c.args.number f c.launch.new.self.state) (g.P.PageDevice.honest c.launch.new.self.pages) honest c.launch.result is.free
     (λ begun. record {
-      writes = c.in-Ok.plan.writes.items;
+      writes = c.plan_inverse.new.plan.writes.items;
       planned = record { planned = p.follows.0; slots = c.in-Ok.ensures.lawful.slots; free = p.follows.1; lowest = p.lowest };
-      state = but_same _ _ begun (c.launch.ensures.devices.0.images honest) ∙ ap (λ (x : State). turned_back x c.args.txn c.args.number f c.in-Ok.plan.writes.items) (read_state g.P.PageDevice _ _ c.in-Ok.ensures.read truly);
+      state = but_same _ _ begun (c.launch.ensures.devices.0.images honest) ∙ ap (λ (x : State). turned_back x c.args.txn c.args.number f c.plan_inverse.new.plan.writes.items) (read_state g.P.PageDevice _ _ c.in-Ok.ensures.read truly);
     })
     c.launch.ensures.launched c.launch.ensures.causes
 
@@ -88,10 +88,10 @@ returns-in-Ok-clause-answered g c given =
     let f = c.args.done.now in
     let truly = c.launch.ensures.devices.0.honest given.0 in
     record {
-      plan = Ok c.in-Ok.plan;
-      asked = subst (λ (r : Record). LevelsAnswer s (to_undo r) (Ok c.in-Ok.plan)) c.op_end_of.ensures (c.in-Ok.ensures.answered (truly, read_on c.in-Ok.plan));
-      begun = begins_planned (g.P.PageDevice.honest c.launch.new.self.pages) given.0 c.in-Ok.plan (λ (p : Plan). c.launch.new.self.state ≡ turned_back s c.args.txn c.args.number f p.writes.items) c.launch.result
-          (λ begun. but_same _ _ begun (c.launch.ensures.devices.0.images given.0) ∙ ap (λ (x : State). turned_back x c.args.txn c.args.number f c.in-Ok.plan.writes.items) (read_state g.P.PageDevice _ _ c.in-Ok.ensures.read truly))
+      plan = Ok c.plan_inverse.new.plan;
+      asked = subst (λ (r : Record). LevelsAnswer s (to_undo r) (Ok c.plan_inverse.new.plan)) c.op_end_of.ensures (c.in-Ok.ensures.answered (truly, read_on _));
+      begun = begins_planned (g.P.PageDevice.honest c.launch.new.self.pages) given.0 c.plan_inverse.new.plan (λ (p : Plan). c.launch.new.self.state ≡ turned_back s c.args.txn c.args.number f p.writes.items) c.launch.result
+          (λ begun. but_same _ _ begun (c.launch.ensures.devices.0.images given.0) ∙ ap (λ (x : State). turned_back x c.args.txn c.args.number f c.plan_inverse.new.plan.writes.items) (read_state g.P.PageDevice _ _ c.in-Ok.ensures.read truly))
           c.launch.ensures.launched c.launch.ensures.causes;
     }
 
@@ -113,14 +113,14 @@ pub returns-in-Ok-clause-frames : goal.returns-in-Ok-clause-frames
 returns-in-Ok-clause-frames g c =
     let s = c.args.self.now.state in
     let f = c.args.done.now in
-    let ws = c.in-Ok.plan.writes.items in
+    let ws = c.plan_inverse.new.plan.writes.items in
     planned_frames g.P.PageDevice c.args.self.now c.plan_inverse.new.self c.in-Ok.ensures.read c.args.txn (record { number = c.args.number; writes = ws; made = 0; aim = Undoing f.lsn f.deed }) (λ l. g.P.PageDevice.honest c.launch.new.self.pages → IsInversePlan s f.deed l) c.launch.new.self.state (turned_back c.plan_inverse.new.self.state c.args.txn c.args.number f ws)
     (turned_idle s c.args.txn c.args.number (Some f) c.requires.ready)
     (λ honest.
-    let is = c.in-Ok.ensures.planned (c.launch.ensures.devices.0.honest honest, read_on c.in-Ok.plan) f.deed (ap deed_back c.op_end_of.ensures ∙ c.requires.kept.reads) c.requires.kept.sender in
-    let p : IsPlanBack (known_part s) f.deed c.in-Ok.plan = is.plan in
+    let is = c.in-Ok.ensures.planned (c.launch.ensures.devices.0.honest honest, read_on _) f.deed (ap deed_back c.op_end_of.ensures ∙ c.requires.kept.reads) c.requires.kept.sender in
+    let p : IsPlanBack (known_part s) f.deed c.plan_inverse.new.plan = is.plan in
     record { planned = p.follows.0; slots = c.in-Ok.ensures.lawful.slots; free = p.follows.1; lowest = p.lowest })
     refl c.launch.result c.launch.ensures.launched c.launch.ensures.frames
 
 pub returns-in-Err-clause-frames : goal.returns-in-Err-clause-frames
-returns-in-Err-clause-frames g c = no_plan_frames _ c.in-Err.why c.in-Err.ensures.causes
+returns-in-Err-clause-frames g c = no_plan_frames _ _ c.in-Err.why c.in-Err.ensures.causes

@@ -159,10 +159,10 @@ returns-clause-full g c =
 
 pub returns-in_err-number-clause-full : goal.returns-in_err-number-clause-full
 returns-in_err-number-clause-full g c =
-    let none = (λ (A : Type 0). no_test_frames A _ c.in_err-number.ensures.refused.plain) in
+    let none = (λ (A B : Type 0). no_test_frames A B _ c.in_err-number.ensures.refused.plain) in
     search (rules, none)
 
 pub returns-in_err-check_send-clause-full : goal.returns-in_err-check_send-clause-full
 returns-in_err-check_send-clause-full g c =
-    let none = (λ (A : Type 0). no_test_frames A _ c.in_err-check_send.ensures.tests) in
+    let none = (λ (A B : Type 0). no_test_frames A B _ c.in_err-check_send.ensures.tests) in
     search (rules, none)

@@ -171,5 +171,5 @@ returns-in-Err-clause-frames g c =
 
 pub returns-in_err-number-clause-frames : goal.returns-in_err-number-clause-frames
 returns-in_err-number-clause-frames g c =
-    let none = (λ (A : Type 0). no_test_frames A _ c.in_err-number.ensures.refused.plain) in
+    let none = (λ (A B : Type 0). no_test_frames A B _ c.in_err-number.ensures.refused.plain) in
     search (rules, none)

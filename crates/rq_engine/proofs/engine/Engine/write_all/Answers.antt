@@ -18,6 +18,7 @@ loop-page-init g c = record {
   behind = λ p past. (refl, λ b may. may);
   fewer = λ p h. h;
   faults = refl;
+  count = refl;
   log = refl;
   replacing = refl;
   honest = λ h. h;
@@ -81,8 +82,15 @@ loop-page-preserved g c =
       behind = λ p past. kept_join g.P.PageDevice c.args.self.now.pages old.pages c.write_page.new.self.pages p (kept.behind p past) (page_others g.P.PageDevice old c.write_page.new.self n (Ok w) made.device p (let end = c.pages-page-end.ensures.number in let z = ap page_count (c.layout-layout.ensures.sizes ∙ ap (λ (s : State). s.sizes) (state_is c.self.view_is)) in let within = c.loop-page-test.true in λ e. absurd (omega (arith, end, z, within, past, e))));
       fewer = λ p h. ap (λ (f : List Bool). is_changed f p) made.changed ∙ fewer_after old.changed n (Ok w) p (kept.fewer p h);
       faults = page_counts_none g.P.PageDevice g.L.LogDevice c.args.self.now old c.write_page.new.self n w made.device ∙ kept.faults;
+      count = made.count ∙ kept.count;
       log = made.log ∙ kept.log;
       replacing = made.replacing ∙ kept.replacing;
       honest = λ h. kept.honest (made.honest h);
       fit = keeps_join g.P.PageDevice g.L.LogDevice c.args.self.now old c.write_page.new.self kept.state kept.replacing (λ h. (made.honest h.0, subst g.L.LogDevice.honest made.log h.1)) kept.fit made.fit;
     }
+
+pub returns-in_err-write_page-clause-count : goal.returns-in_err-write_page-clause-count
+returns-in_err-write_page-clause-count g c = c.in_err-write_page.ensures.count ∙ c.loop-page.invariant.count
+
+pub returns-clause-count : goal.returns-clause-count
+returns-clause-count g c = c.loop-page.invariant.count

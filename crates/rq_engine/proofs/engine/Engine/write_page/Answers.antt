@@ -46,6 +46,7 @@ returns-in-Err g c = record {
   state = search rules;
   changed = search rules;
   device = search rules;
+  count = search rules;
   honest = search rules;
   log = search rules;
   replacing = search rules;

@@ -19,6 +19,7 @@ loop-page-init g c =
       beyond = λ p past. (refl, λ b may. may);
       faults = refl;
       changed = refl;
+      count = refl;
       log = refl;
       replacing = refl;
       honest = λ h. h;
@@ -89,6 +90,7 @@ loop-page-preserved g c =
       beyond = λ p past. kept_join P c.args.self.now.pages c.loop-page.self.pages now.pages p (kept.beyond p past) (made.others p (let end = c.pages-page-end.ensures.number in let within = c.loop-page-test.true in λ e. absurd (omega (arith, end, within, past, e))));
       faults = made.cause.0 ∙ kept.faults;
       changed = made.changed ∙ kept.changed;
+      count = made.count ∙ kept.count;
       log = made.log ∙ kept.log;
       replacing = made.replacing ∙ kept.replacing;
       honest = λ h. kept.honest (made.honest h);
@@ -124,3 +126,9 @@ returns-clause-honest g c = c.loop-page.invariant.honest
 
 pub returns-clause-fit : goal.returns-clause-fit
 returns-clause-fit g c = c.loop-page.invariant.fit
+
+pub returns-in_err-write_tag_page-clause-count : goal.returns-in_err-write_tag_page-clause-count
+returns-in_err-write_tag_page-clause-count g c = c.in_err-write_tag_page.ensures.count ∙ c.loop-page.invariant.count
+
+pub returns-clause-count : goal.returns-clause-count
+returns-clause-count g c = c.loop-page.invariant.count

@@ -1,4 +1,4 @@
-use Rattle.std.proofs.Common.{◌≡◌, ◌<◌, ◌≤◌, ℕ}
+use Rattle.std.proofs.Common.{◌≡◌, ◌<◌, ◌≤◌, length, ℕ}
 use Rattle.rq_page.specs.Sizes.{page_count}
 use Rattle.rq_page.specs.Formatted.{IsFormatted}
 use Rattle.rq_engine.specs.Crash.{KeepsFit}
@@ -13,6 +13,7 @@ invariant-loop-page g l = record {
   beyond : (p : ℕ) → page_count l.fn.grown ≤ p → KeepsPage g.P.PageDevice l.fn.self.pages l.self.pages p;
   faults : g.P.PageDevice.faults l.self.pages ≡ g.P.PageDevice.faults l.fn.self.pages;
   changed : l.self.changed ≡ l.fn.self.changed;
+  count : length l.self.frames ≡ length l.fn.self.frames;
   log : l.self.log ≡ l.fn.self.log;
   replacing : l.self.replacing ≡ l.fn.self.replacing;
   honest : g.P.PageDevice.honest l.self.pages → g.P.PageDevice.honest l.fn.self.pages;
