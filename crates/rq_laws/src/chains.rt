@@ -3,13 +3,17 @@ ghost use Rattle.std.specs.Prelude.{◌≡◌, ◌-◌, ◌<◌, ◌^◌, IfOk, 
 ghost use Rattle.rq_page.specs.Cells.{cell_in};
 ghost use Rattle.rq_page.specs.Sizes.{IsCellAddress};
 ghost use Rattle.rq_level.specs.Writes.{writes_of};
-ghost use Rattle.rq_chain.specs.CellEntries.{IsGroupOf, IsCellEntryAt, IsNeighbour, cell_beside};
+ghost use Rattle.rq_page.specs.Slots.{IsCellOf};
+ghost use Rattle.rq_views.specs.Items.{layout_of};
+ghost use Rattle.rq_views.specs.Plans.{append_writes, put_back_writes, unlink_head_writes};
+ghost use Rattle.rq_chain.specs.CellEntries.{IsGroupOf, IsCellEntryAt, IsNeighbour, cell_appended, cell_beside};
 
 use rq_chain::{CellEntry, DirectoryEntry, append, put_back, unlink_head};
 use rq_level::SlotWrite;
 use rq_model::message::Body;
 use rq_model::refusal::NoMemory;
 use rq_page::addr::Addr;
+use rq_page::cell::Cell;
 use rq_page::layout::Layout;
 use std::alloc::Global;
 
@@ -21,9 +25,8 @@ pub fn sends(
     tail: &Option<CellEntry>,
     tail_again: &Option<CellEntry>,
     free: Addr,
-    tag: u64,
-    body: Body,
-    body_again: Body,
+    new: &Cell,
+    new_again: &Cell,
 ) -> (
     Result<Vec<SlotWrite>, NoMemory>,
     Result<Vec<SlotWrite>, NoMemory>,
@@ -33,22 +36,16 @@ pub fn sends(
     requires tail { IsNeighbour layout.now group.now.directory.tail tail.now }
     requires again { IsNeighbour layout.now group.now.directory.tail tail_again.now }
     requires same { cell_beside tail_again.now ≡ cell_beside tail.now }
-    requires body { body_again ≡ body }
+    requires new { new.now ≡ cell_appended group.now new.now.tag new.now.body }
+    requires fits { IsCellOf layout.now new.now }
+    requires cell { new_again.now ≡ new.now }
     requires free { IsCellAddress layout.now free }
     ensures { IfOk result.0 (λ a. IfOk result.1
         (λ b. reverse (writes_of layout.now a.items) ≡ reverse (writes_of layout.now b.items))) }
 {
     (
-        append(Vec::new(alloc), layout, group, tail, free, tag, &body),
-        append(
-            Vec::new(alloc),
-            layout,
-            group,
-            tail_again,
-            free,
-            tag,
-            &body_again,
-        ),
+        sent(alloc, layout, group, tail, free, new),
+        sent(alloc, layout, group, tail_again, free, new_again),
     )
 }
 
@@ -74,8 +71,8 @@ pub fn takes(
         (λ b. reverse (writes_of layout.now a.items) ≡ reverse (writes_of layout.now b.items))) }
 {
     (
-        unlink_head(Vec::new(alloc), layout, group, head, next),
-        unlink_head(Vec::new(alloc), layout, group, head, next_again),
+        taken(alloc, layout, group, head, next),
+        taken(alloc, layout, group, head, next_again),
     )
 }
 
@@ -105,15 +102,78 @@ pub fn puts_back(
         (λ b. reverse (writes_of layout.now a.items) ≡ reverse (writes_of layout.now b.items))) }
 {
     (
-        put_back(Vec::new(alloc), layout, group, head, free, tag, &body),
-        put_back(
-            Vec::new(alloc),
-            layout,
-            group,
-            head_again,
-            free,
-            tag,
-            &body_again,
-        ),
+        taken_back(alloc, layout, group, head, free, tag, &body),
+        taken_back(alloc, layout, group, head_again, free, tag, &body_again),
     )
+}
+
+// The writes of a send.
+fn sent(
+    alloc: Global,
+    layout: &Layout,
+    group: &DirectoryEntry,
+    tail: &Option<CellEntry>,
+    free: Addr,
+    new: &Cell,
+) -> Result<Vec<SlotWrite>, NoMemory>
+    requires room { group.now.directory.sent < 2 ^ 64 - 1 }
+    requires new { new.now ≡ cell_appended group.now new.now.tag new.now.body }
+    requires fits { IsCellOf layout.now new.now }
+    requires group { IsGroupOf layout.now group.now }
+    requires tail { IsNeighbour layout.now group.now.directory.tail tail.now }
+    requires free { IsCellAddress layout.now free }
+    ensures { IfOk result (λ all. reverse (writes_of layout.now all.items) ≡ append_writes (layout_of layout.now)
+        group.now.sender group.now.directory free new.now.tag new.now.body (cell_beside tail.now)) }
+{
+    let mut writes = Vec::new(alloc);
+    match append(&mut writes, layout, group, tail, free, new) {
+        Ok(()) => Ok(writes),
+        Err(wanting) => Err(wanting),
+    }
+}
+
+// The writes of a receive.
+fn taken(
+    alloc: Global,
+    layout: &Layout,
+    group: &DirectoryEntry,
+    head: &CellEntry,
+    next: &Option<CellEntry>,
+) -> Result<Vec<SlotWrite>, NoMemory>
+    requires some { group.now.directory.received < group.now.directory.sent }
+    requires group { IsGroupOf layout.now group.now }
+    requires head { IsCellEntryAt layout.now group.now.directory.head head.now }
+    requires next { IsNeighbour layout.now (cell_in head.now.bytes.now).next next.now }
+    ensures { IfOk result (λ all. reverse (writes_of layout.now all.items) ≡ unlink_head_writes (layout_of layout.now)
+        group.now.sender group.now.directory (cell_in head.now.bytes.now) (cell_beside next.now)) }
+{
+    let mut writes = Vec::new(alloc);
+    match unlink_head(&mut writes, layout, group, head, next) {
+        Ok(()) => Ok(writes),
+        Err(wanting) => Err(wanting),
+    }
+}
+
+// The writes of what takes a receive back.
+fn taken_back(
+    alloc: Global,
+    layout: &Layout,
+    group: &DirectoryEntry,
+    head: &Option<CellEntry>,
+    free: Addr,
+    tag: u64,
+    body: &Body,
+) -> Result<Vec<SlotWrite>, NoMemory>
+    requires some { 0 < group.now.directory.received }
+    requires group { IsGroupOf layout.now group.now }
+    requires head { IsNeighbour layout.now group.now.directory.head head.now }
+    requires free { IsCellAddress layout.now free }
+    ensures { IfOk result (λ all. reverse (writes_of layout.now all.items) ≡ put_back_writes (layout_of layout.now)
+        group.now.sender group.now.directory free tag body.now (cell_beside head.now)) }
+{
+    let mut writes = Vec::new(alloc);
+    match put_back(&mut writes, layout, group, head, free, tag, body) {
+        Ok(()) => Ok(writes),
+        Err(wanting) => Err(wanting),
+    }
 }

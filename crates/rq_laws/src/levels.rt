@@ -1,6 +1,7 @@
 //! Levels of recovery: two of one number that keep the same of a store.
 ghost use Rattle.std.specs.Prelude.{◌≡◌, IfOk};
 ghost use Rattle.rq_level.specs.Meaning.{AreOf, IsRedo, redo_of};
+ghost use Rattle.rq_level.specs.Writes.{with_plan};
 ghost use Rattle.rq_laws.specs.Alike.{PagesAlike};
 ghost use Rattle.rq_laws.specs.Planned.{PlannedAlike};
 
@@ -10,7 +11,6 @@ use rq_model::refusal::Refusal;
 use rq_model::txn::Lsn;
 use rq_page::addr::Addr;
 use rq_page::page::Page;
-use std::alloc::Global;
 
 /// They read the same deeds. Excludes a level that reads bytes that are no deed, such as one with a body too long.
 pub fn reads<B: Level>(first: &B, second: &B, deed: &[u8]) -> (bool, bool)
@@ -57,44 +57,48 @@ pub fn redoes<B: Level>(
 /// memory alone. Excludes a plan that takes a cell on a latched page, or another than the lowest, and one whose cell
 /// is not reserved.
 pub fn plans<B: Level>(
-    alloc: Global,
     first: &mut B,
     second: &mut B,
     op: &Op,
     given: &Slots,
     latched: &PageSet,
-) -> (Result<Plan, Refusal>, Result<Plan, Refusal>)
+    plan: &mut Plan,
+    again: &mut Plan,
+) -> (Result<(), Refusal>, Result<(), Refusal>)
     requires chains { B.level first.old ≡ 1 }
     requires again { B.level second.old ≡ 1 }
     requires kept { B.kept first.old ≡ B.kept second.old }
     requires given { AreOf (B.kept first.old).sizes given.now }
-    ensures planned { PlannedAlike (B.kept first.old).sizes result.0 result.1 }
-    ensures kept { IfOk result.0 (λ _. IfOk result.1 (λ _. B.kept first.new ≡ B.kept second.new)) }
+    ensures planned { PlannedAlike (B.kept first.old).sizes (with_plan plan.new result.0) (with_plan again.new result.1) }
+    ensures kept { IfOk (with_plan plan.new result.0) (λ _. IfOk (with_plan again.new result.1) (λ _.
+        B.kept first.new ≡ B.kept second.new)) }
 {
     (
-        first.plan(Vec::new(alloc), op, given, latched),
-        second.plan(Vec::new(alloc), op, given, latched),
+        first.plan(op, given, latched, plan),
+        second.plan(op, given, latched, again),
     )
 }
 
 /// It plans the same to take a deed back. Excludes an empty plan, and one that puts a message back at the tail.
 pub fn undoes<B: Level>(
-    alloc: Global,
     first: &mut B,
     second: &mut B,
     record: &Record,
     given: &Slots,
     latched: &PageSet,
-) -> (Result<Plan, Refusal>, Result<Plan, Refusal>)
+    plan: &mut Plan,
+    again: &mut Plan,
+) -> (Result<(), Refusal>, Result<(), Refusal>)
     requires chains { B.level first.old ≡ 1 }
     requires again { B.level second.old ≡ 1 }
     requires kept { B.kept first.old ≡ B.kept second.old }
     requires given { AreOf (B.kept first.old).sizes given.now }
-    ensures planned { PlannedAlike (B.kept first.old).sizes result.0 result.1 }
-    ensures kept { IfOk result.0 (λ _. IfOk result.1 (λ _. B.kept first.new ≡ B.kept second.new)) }
+    ensures planned { PlannedAlike (B.kept first.old).sizes (with_plan plan.new result.0) (with_plan again.new result.1) }
+    ensures kept { IfOk (with_plan plan.new result.0) (λ _. IfOk (with_plan again.new result.1) (λ _.
+        B.kept first.new ≡ B.kept second.new)) }
 {
     (
-        first.undo(Vec::new(alloc), record, given, latched),
-        second.undo(Vec::new(alloc), record, given, latched),
+        first.undo(record, given, latched, plan),
+        second.undo(record, given, latched, again),
     )
 }

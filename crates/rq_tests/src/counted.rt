@@ -4,7 +4,7 @@ ghost use Rattle.rq_level.specs.LevelState.{HasRoom};
 ghost use Rattle.rq_levels.specs.Words.{kept_of, number_of};
 
 use rq_chain::{ChainLevel, TagLevel};
-use rq_level::{Level, Op, Outcome, PageSet, Plan, SlotWrite, Slots, Want, redo_page};
+use rq_level::{Level, Op, Outcome, PageSet, Plan, Slots, Want, redo_page};
 use rq_levels::StoreLevel;
 use rq_model::record::{Record, Slot};
 use rq_model::refusal::{Damage, Refusal};
@@ -153,24 +153,24 @@ impl Level for Counted {
 
     fn plan(
         &mut self,
-        room: Vec<SlotWrite>,
         op: &Op,
         given: &Slots,
         latched: &PageSet,
-    ) -> Result<Plan, Refusal> {
+        plan: &mut Plan,
+    ) -> Result<(), Refusal> {
         self.asks.plans.fetch_add(1, Ordering::SeqCst);
-        self.level.plan(room, op, given, latched)
+        self.level.plan(op, given, latched, plan)
     }
 
     fn undo(
         &mut self,
-        room: Vec<SlotWrite>,
         record: &Record,
         given: &Slots,
         latched: &PageSet,
-    ) -> Result<Plan, Refusal> {
+        plan: &mut Plan,
+    ) -> Result<(), Refusal> {
         self.asks.undos.fetch_add(1, Ordering::SeqCst);
-        self.level.undo(room, record, given, latched)
+        self.level.undo(record, given, latched, plan)
     }
 
     fn redo(&mut self, page: &mut Page, lsn: Lsn, record: &Record) -> bool {
@@ -236,22 +236,22 @@ impl Level for Bystander {
 
     fn plan(
         &mut self,
-        _room: Vec<SlotWrite>,
         _op: &Op,
         _given: &Slots,
         _latched: &PageSet,
-    ) -> Result<Plan, Refusal> {
+        _plan: &mut Plan,
+    ) -> Result<(), Refusal> {
         self.asks.plans.fetch_add(1, Ordering::SeqCst);
         Err(Refusal::Damaged(Damage::Page(0)))
     }
 
     fn undo(
         &mut self,
-        _room: Vec<SlotWrite>,
         _record: &Record,
         _given: &Slots,
         _latched: &PageSet,
-    ) -> Result<Plan, Refusal> {
+        _plan: &mut Plan,
+    ) -> Result<(), Refusal> {
         self.asks.undos.fetch_add(1, Ordering::SeqCst);
         Err(Refusal::Damaged(Damage::Page(0)))
     }
