@@ -2,6 +2,7 @@
 use Rattle.std.proofs.Common.{◌≡◌, ◌+◌, ℕ, zero, suc, true, false, not, ◌<◌, List, [], ◌∷◌, ◌++◌, length, take, None, Some, refl, sym, ◌∙◌, ap, subst, arith}
 use Rattle.std.specs.List.{slice_get}
 use Rattle.std.proofs.lemmas.List.{drop_at, take_all}
+use Rattle.rq_disk.specs.Device.{Images}
 use Rattle.rq_model.specs.declared.record.Record.{Record}
 use Rattle.rq_model.specs.Bases.{is_base, standing}
 use Rattle.rq_model.proofs.Bases.{added_stand}
@@ -37,7 +38,7 @@ use Rattle.rq_restart.specs.Aborting.{AbortStops, AbortingStops, AbortsBehind, A
 use Rattle.rq_restart.specs.Aborting.Round.{Ends, TakesBack}
 use Rattle.rq_restart.specs.Aborting.IsAborting.{Between, Within}
 use Rattle.rq_restart.specs.Aborting.IsBadStep.{BadDue, BadRecord}
-use Rattle.rq_restart.specs.Repeating.{ArePagesCounted, Belongs, IsRecordRedone, Paged, paged, slots_on}
+use Rattle.rq_restart.specs.Repeating.{ArePagesCounted, Belongs, IsRecordRedone, paged, slots_on}
 use Rattle.rq_restart.specs.Undoing.{StepStops}
 use Rattle.rq_log.specs.Spelled.{AreSpelled}
 use Rattle.rq_log.specs.Spelled.{AreAllSpelled}
@@ -66,10 +67,10 @@ behind_none log = record { rounds = []; turns = tt; are = refl }
 
 -- ---- each planned
 
-pub plan_weaker : (z : Sizes) (one other : Paged → Type 0) → ((p : Paged) → one p → other p) → (d : PendingUndo) (ws : List SlotWrite) → IsPlannedOn z one d ws → IsPlannedOn z other d ws
+pub plan_weaker : (z : Sizes) (one other : Images → Type 0) → ((p : Images) → one p → other p) → (d : PendingUndo) (ws : List SlotWrite) → IsPlannedOn z one d ws → IsPlannedOn z other d ws
 plan_weaker z one other j d ws h = record { pages = h.pages; on_pages = j h.pages h.on_pages; plan = h.plan }
 
-module _ (z : Sizes) (one other : List Record → Paged → Type 0) (j : (l : List Record) (p : Paged) → one l p → other l p) where
+module _ (z : Sizes) (one other : List Record → Images → Type 0) (j : (l : List Record) (p : Images) → one l p → other l p) where
   pub planned_weaker : (log : List Record) (rs : List Round) → ArePlanned z one log rs → ArePlanned z other log rs
   planned_weaker log [] h = tt
   planned_weaker log (Ends t ∷ rs) h = planned_weaker log rs h
@@ -82,7 +83,7 @@ module _ (z : Sizes) (one other : List Record → Paged → Type 0) (j : (l : Li
   aborting_weaker log now (Between a) = Between (aborts_weaker log now a)
   aborting_weaker log now (Within older d n ws made a next plan are) = Within older d n ws made (aborts_weaker log older a) next (plan_weaker z (one older) (other older) (j older) d ws plan) are
 
-module _ (z : Sizes) (on : List Record → Paged → Type 0) where
+module _ (z : Sizes) (on : List Record → Images → Type 0) where
   join_planned : (xs ys : List Round) (log : List Record) → ArePlanned z on (after_rounds ys log) xs → ArePlanned z on log ys → ArePlanned z on log (xs ++ ys)
   join_planned [] ys log h k = k
   join_planned (Ends t ∷ xs) ys log h k = join_planned xs ys log h k
@@ -119,8 +120,8 @@ module _ (z : Sizes) (on : List Record → Paged → Type 0) where
   }
 
 -- from pages that the log before was repeated on
-module _ (z : Sizes) (a b : List Record) (old mid : Paged) (repeated : RepeatedSince z a old b mid) where
-  since : (l : List Record) (p : Paged) → RepeatedSince z b mid l p → RepeatedSince z a old l p
+module _ (z : Sizes) (a b : List Record) (old mid : Images) (repeated : RepeatedSince z a old b mid) where
+  since : (l : List Record) (p : Images) → RepeatedSince z b mid l p → RepeatedSince z a old l p
   since l p h first k = h first (repeated first k)
 
   pub aborts_join : (c : List Record) → AbortsOn z (RepeatedSince z a old) a b → AbortsOn z (RepeatedSince z b mid) b c → AbortsOn z (RepeatedSince z a old) a c
@@ -130,7 +131,7 @@ module _ (z : Sizes) (a b : List Record) (old mid : Paged) (repeated : RepeatedS
   aborting_join c h k = same_aborting z (RepeatedSince z a old) a b c h (aborting_weaker z (RepeatedSince z b mid) (RepeatedSince z a old) since b c k)
 
 -- what is planned over the pages as they are
-pub planned_here : (z : Sizes) (log : List Record) (old : Paged) (d : PendingUndo) (ws : List SlotWrite) → IsTakingBack z (slots_on z old) (deed_by d.level d.deed) ws → IsPlannedOn z (RepeatedSince z log old log) d ws
+pub planned_here : (z : Sizes) (log : List Record) (old : Images) (d : PendingUndo) (ws : List SlotWrite) → IsTakingBack z (slots_on z old) (deed_by d.level d.deed) ws → IsPlannedOn z (RepeatedSince z log old log) d ws
 planned_here z log old d ws plan = record { pages = old; on_pages = λ first k. k; plan = plan }
 
 -- ---- writes of an operation
@@ -221,7 +222,7 @@ module _ {P : Type 0} (z : Sizes) (behind : List Record → Type 0) (log : List 
 
 -- what stops behind the one is what stops behind the other
 module _ (z : Sizes) (one other : List Record → Type 0) (j : (l : List Record) → one l → other l) where
-  pub bad_weaker : (first : Paged) (last : List Record) (lsn : ℕ) → IsBadStep z one first last lsn → IsBadStep z other first last lsn
+  pub bad_weaker : (first : Images) (last : List Record) (lsn : ℕ) → IsBadStep z one first last lsn → IsBadStep z other first last lsn
   bad_weaker first last lsn (BadRecord newest mid next place repeated bad) = BadRecord newest mid (j (newest ∷ last) next) place repeated bad
   bad_weaker first last lsn (BadDue due older images mid is nobody place same repeated bad) = BadDue due older images mid is nobody place same repeated bad
 

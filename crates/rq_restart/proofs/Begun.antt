@@ -38,7 +38,7 @@ use Rattle.rq_restart.specs.RolledBack.{ArePlannedFrom, IsRolledBack}
 use Rattle.rq_restart.specs.Refused.{BeginsNot, WhyShut}
 use Rattle.rq_restart.specs.Restarting.{IsBegun, IsBegunBehind, Reports}
 use Rattle.rq_restart.specs.Past.{IsPast, WhereLeft}
-use Rattle.rq_restart.specs.Repeating.{Belongs, Paged, Repeats}
+use Rattle.rq_restart.specs.Repeating.{Belongs, Repeats}
 use Rattle.rq_restart.specs.Undoing.{IsBadUndo}
 use Rattle.rq_restart.proofs.Aborts.{aborting_extends, aborting_incarnation}
 use Rattle.rq_restart.proofs.Lefts.{left_longer, left_undoing}
@@ -58,30 +58,30 @@ pub rolled_back_extends : (log rolled_back : List Record) → IsRolledBack log r
 rolled_back_extends log rolled_back m = extends_join log m.undone rolled_back (undoing_extends log m.undone m.undoes.undoing) (aborting_extends m.undone rolled_back m.aborting)
 
 -- of a store that was left so, each record that undoes something belongs where it stands
-pub no_bad_undo : (z : Sizes) (log : List Record) (first : Paged) (lsn : ℕ) → IsBadUndo z log first lsn → WhereLeft z first.image log (λ e. ⊥)
+pub no_bad_undo : (z : Sizes) (log : List Record) (first : Images) (lsn : ℕ) → IsBadUndo z log first lsn → WhereLeft z first log (λ e. ⊥)
 no_bad_undo z log first lsn b e past left =
     let all : List Record = rebased e log in
     let then : List Record = rebased e b.undone in
     let added = undoing_added e log b.undone b.undoing in
     let past_then : IsPast e b.undone = added.past past in
     let based_then : AreBased then = added.based left.whole.based in
-    let there = left_undoing z first.image all then left (undoing_on e log past left.whole.based b.undone b.undoing) in
+    let there = left_undoing z first all then left (undoing_on e log past left.whole.based b.undone b.undoing) in
     let next : IsNextUndo (open_work_of then) b.newest = subst (λ (h : OpenWorkView). IsNextUndo h b.newest) (sym (work_on e b.undone past_then based_then)) b.next in
     let plain : is_base b.newest ≡ false = undo_is_no_base (open_work_of then) b.newest next in
     let grown : List Record = b.newest ∷ then in
     let w : IsWhole z grown = undo_keeps_whole z then b.newest there.whole next in
-    let more : IsLeft z first.image grown = left_longer z first.image then grown there w (b.newest ∷ [], refl, (undo_is_plain (open_work_of then) b.newest next, tt)) in
+    let more : IsLeft z first grown = left_longer z first then grown there w (b.newest ∷ [], refl, (undo_is_plain (open_work_of then) b.newest next, tt)) in
     let belongs : Belongs z (marked then) b.newest b.mid = left_belongs z grown then b.newest first b.mid plain (oldest_all grown) (omega arith) (sym (base_plain b.newest then plain)) more (subst (λ (l : List Record). Repeats z l first b.mid) (sym past_then) b.repeated) in
     b.bad (subst (λ (l : List Record). Belongs z l b.newest b.mid) past_then belongs)
 
 -- once it is recovered, the store that opens over the log is sound
-pub begun_sound : (z : Sizes) (first last : Paged) (images : List (List ℕ)) (log rolled_back : List Record) (e : List Record) → last.image ≡ image_in images → IsPool z images → IsRolledBack log rolled_back → IsPast e log → IsRecovered z (rebased e log) (rebased e rolled_back) → Repeats z rolled_back first last
-    → IsLeft z first.image (rebased e log) → IsSound (opened z images (rebased e rolled_back))
+pub begun_sound : (z : Sizes) (first last : Images) (images : List (List ℕ)) (log rolled_back : List Record) (e : List Record) → last ≡ image_in images → IsPool z images → IsRolledBack log rolled_back → IsPast e log → IsRecovered z (rebased e log) (rebased e rolled_back) → Repeats z rolled_back first last
+    → IsLeft z first (rebased e log) → IsSound (opened z images (rebased e rolled_back))
 begun_sound z first last images log rolled_back e are pool m past recovered repeated left =
     let all : List Record = rebased e log in
     let now : List Record = rebased e rolled_back in
     let from : IsRecoveredFrom z all now = recovered_from z all now left.whole recovered in
-    let there = left_longer z first.image all now left from.whole from.extends in
+    let there = left_longer z first all now left from.whole from.extends in
     let past_now : IsPast e rolled_back = (mended_added e log rolled_back m).past past in
     let up = all_up_to z now first there last (subst (λ (l : List Record). Repeats z l first last) (sym past_now) repeated) in
     let fits : FitsUpTo z (image_in images) now (length now) = subst (λ f. FitsUpTo z f now (length now)) are up.fits in
@@ -132,7 +132,7 @@ module _ (log rolled_back : List Record) (m : IsRolledBack log rolled_back) (h :
       }
 
   -- why the incarnation was not begun
-  pub not_begun : (z : Sizes) (first now_paged : Paged) (e : Refusal) (before now : ℕ) (untouched : Type 0) → Repeats z rolled_back first now_paged → ArePlannedFrom z first log rolled_back m → WhereLeft z first.image log (λ e. IsRecovered z (rebased e log) (rebased e rolled_back))
+  pub not_begun : (z : Sizes) (first now_paged : Images) (e : Refusal) (before now : ℕ) (untouched : Type 0) → Repeats z rolled_back first now_paged → ArePlannedFrom z first log rolled_back m → WhereLeft z first log (λ e. IsRecovered z (rebased e log) (rebased e rolled_back))
       → WasReadAndRedone z log first → BeginsNot e (length rolled_back) last before now untouched → WhyShut z log first e before now untouched
   not_begun z first now_paged why.NoMemory before now untouched repeated planned recovered was b = b
   not_begun z first now_paged why.DiskWrite before now untouched repeated planned recovered was b = (b, was)

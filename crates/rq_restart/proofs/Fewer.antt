@@ -1,5 +1,5 @@
 -- A store that was opened with each page in a frame lets go of frames.
-use Rattle.std.proofs.Common.{◌≡◌, ℕ, ◌+◌, ◌%◌, ◌^◌, ◌≤◌, ◌⊎◌, ⊎_elim, ◌++◌, nat_eq, cond, true, false, List, ◌∷◌, drop, length, min, Result, Ok, Err, IfOk, IfErr, inl, inr, sym, ◌∙◌, ap, subst, arith}
+use Rattle.std.proofs.Common.{◌≡◌, ℕ, ◌+◌, ◌%◌, ◌^◌, ◌<◌, ◌≤◌, ◌⊎◌, ⊎_elim, ◌++◌, nat_eq, cond, true, false, List, ◌∷◌, drop, length, min, Result, Ok, Err, IfOk, IfErr, inl, inr, sym, ◌∙◌, ap, subst, arith}
 use Rattle.std.proofs.lemmas.Bool.{cases_eq}
 use Rattle.std.proofs.lemmas.Bool.Decides.{nat_tests}
 use Rattle.rq_model.specs.declared.record.Record.{Record}
@@ -17,9 +17,10 @@ use Rattle.rq_log.proofs.Parsing.{one_log}
 use Rattle.rq_page.specs.Formatted.{IsFormatted, IsHeaderOf}
 use Rattle.rq_page.specs.Sizes.{Sizes, IsInRange, page_count}
 use Rattle.rq_pool.specs.Held.{IsFramed}
-use Rattle.rq_pool.specs.KeptUp.{IsKeptUp}
-use Rattle.rq_pool.specs.Pooled.{Pooled, image_at, is_changed}
-use Rattle.rq_pool.specs.Reading.{IsSuperblock}
+use Rattle.rq_pool.specs.KeptUp.{MayBeKept}
+use Rattle.rq_page.specs.Pages.{lsn_of}
+use Rattle.rq_pool.specs.Pooled.{image_at, is_changed}
+use Rattle.rq_pool.specs.Reading.{IsSuperblock, OnlyRead}
 use Rattle.rq_store.specs.Fitting.{AllFit, FitsPage, HoldsBase, image_in}
 use Rattle.rq_store.specs.Opening.{IsLeft, next_restart}
 use Rattle.rq_store.specs.State.{State, ledger_of}
@@ -35,24 +36,16 @@ use Rattle.rq_engine.proofs.Earlier.{long_on}
 use Rattle.rq_restart.specs.declared.restart.Report.{Report}
 use Rattle.rq_restart.specs.Fewer.{KeepsFrames, StopsOut, WritesOut}
 use Rattle.rq_restart.specs.declared.restart.Stopped.{Stopped}
-use Rattle.rq_restart.specs.Opens.{KeepsStores, Opens, OpensOver, OpensWhole, Refuses}
-use Rattle.rq_restart.specs.Repeating.{AreAsRepeated, Paged, paged}
-use Rattle.rq_restart.specs.Restarting.{BeginsFrom, IsBegunFrom, IsLeftOn, IsOpenedOver, IsReadAs, NotWrittenOut, Reports, WasChecked}
+use Rattle.rq_restart.specs.Opens.{KeepsStores, Opens, OpensOver, OpensWhole, ReadWhereEnough, Refuses}
+use Rattle.rq_restart.specs.Repeating.{paged}
+use Rattle.rq_restart.specs.Restarting.{BeginsFrom, IsBegunFrom, IsLeftOn, IsOpenedOver, IsReadAs, LeavesPages, NotWrittenOut, Reports, WasChecked, WasLeftOrWritten}
 use Rattle.rq_restart.specs.Underway.{IsLeftOrGoesOn, IsSomeStore, log_left, pages_left}
 use Rattle.rq_restart.proofs.Loading.{one_size}
 use Rattle.rq_restart.proofs.Opens.{at_most, refuses}
 use Rattle.rq_restart.proofs.Pasts.{added_join, begun_added, earlier_back, mended_added, opened_earlier, same_log}
 
--- pages that were written out are as they were
-pub written_out : {P : Type 0} (p : page_device.Ghosts P) (forced : ℕ) (old new : Pooled P) → IsKeptUp p forced old new → new.images ≡ old.images → ((q : ℕ) → IsFramed new.frames q → is_changed new.changed q ≡ is_changed old.changed q) → AreAsRepeated new.frames (paged old) (paged new)
-written_out p forced old new kept same stays = record {
-  image = λ q. ap (λ (i : List (List ℕ)). image_in i q) same;
-  changed = λ q e. (kept.changed q e).was;
-  framed = stays;
-}
-
 module _ {P L : Type 0} (p : page_device.Ghosts P) (l : log_device.Ghosts L) (pages : P) (log : L) where
-  checked_on : (z : Sizes) (last : Paged) (records : List Record) (old new : P) (was now : L) → (p.honest new → p.honest old) → (l.honest now → l.honest was) → WasChecked p l pages log z last records old was → WasChecked p l pages log z last records new now
+  checked_on : (z : Sizes) (last : Images) (records : List Record) (old new : P) (was now : L) → (p.honest new → p.honest old) → (l.honest now → l.honest was) → WasChecked p l pages log z last records old was → WasChecked p l pages log z last records new now
   checked_on z last records old new was now f h c = record {
     images = c.images;
     sound = c.sound;
@@ -83,15 +76,32 @@ module _ {P L : Type 0} (p : page_device.Ghosts P) (l : log_device.Ghosts L) (pa
         out.fit whole.opens.untried (honest, subst l.honest (sym out.log) read.honest) (earlier older)
         (opened_earlier older s.state o.value read.are_spelled based) r.sound (r.fit based all)
 
+    -- a page that was written out has its image, and all records are forced
+    was_written : (q : ℕ) (c : List ℕ) → MayBeKept p s.state.forced (pooled s) q c → WasLeftOrWritten p l pages log s.state.images (length s.state.records) q c
+    was_written q c = ⊎_elim (whole.opens.pages_left.now q c) (λ f. inr (f.is, (let low = f.lsn in let all = whole.forced in omega (arith, low, all))))
+
+    left_pages : LeavesPages p l pages log now.pages s.state.images (length s.state.records)
+    left_pages =
+        let before = whole.opens.pages_left.moments in
+        let later = out.kept.time.later in
+        let first = before.later in
+        record {
+          now = λ q c may. was_written q c (out.kept.crash q c may);
+          moments = record {
+            later = omega (arith, first, later);
+            each = λ images since. ⊎_elim (before.each images) (λ kept q. was_written q (images q) (kept q)) (out.kept.time.nothing_else (p.moment pages) images first since);
+          };
+        }
+
     pub opens_fewer : (count : ℕ) → now.state ≡ s.state → p.faults now.pages ≡ p.faults s.pages → ((q : ℕ) → IsFramed now.frames q → is_changed now.changed q ≡ is_changed s.changed q) → length now.frames ≡ min (length s.frames) (count + 1) → Opens p l pages log count now report
     opens_fewer count state counted stay frames = record {
       sizes = λ h. subst (λ (x : State). IsSuperblock x.sizes (p.seen pages 0)) (sym state) (whole.opens.sizes (out.kept.honest h));
-      checked = λ h. (
-        paged (pooled s),
-        written_out p s.state.forced (pooled s) (pooled now) out.kept (ap (λ (x : State). x.images) state) stay,
-        subst (λ (x : State). WasChecked p l pages log x.sizes (paged (pooled s)) x.records now.pages now.log) (sym state)
-            (checked_on s.state.sizes (paged (pooled s)) s.state.records s.pages now.pages s.log now.log out.kept.honest log_before (whole.checked (log_before h))),
-      );
+      checked = λ h.
+          subst (λ (x : State). WasChecked p l pages log x.sizes (image_in x.images) x.records now.pages now.log) (sym state)
+          (checked_on s.state.sizes (paged (pooled s)) s.state.records s.pages now.pages s.log now.log out.kept.honest log_before (whole.opens.checked (log_before h)));
+      marked = λ k q high e.
+          subst (λ (x : State). lsn_of (p.seen pages q) < lsn_of (image_at x.images q)) (sym state)
+          (whole.opens.marked (out.kept.honest k) q (subst (λ (x : State). q < page_count x.sizes) state high) (out.kept.changed q e).was);
       over = λ older read.
           let o = whole.opens.over older (read_before older read) in
           record {
@@ -114,21 +124,20 @@ module _ {P L : Type 0} (p : page_device.Ghosts P) (l : log_device.Ghosts L) (pa
       untried = out.replacing ∙ whole.opens.untried;
       unfailed = (counted ∙ whole.opens.unfailed.0, ap l.faults out.log ∙ whole.opens.unfailed.1);
       frames = frames ∙ ap (λ (n : ℕ). min n (count + 1)) (whole.opens.frames ∙ sym (at_most (page_count s.state.sizes)) ∙ ap (λ (x : State). page_count x.sizes) (sym state));
-      pages_left = λ q c may. ⊎_elim
-          (λ was. inl (whole.pages_read.crash q c was))
-          (λ f. inr (f.is ∙ ap (λ (x : State). image_at x.images q) (sym state), (let low = f.lsn in let all = whole.forced in let same = ap (λ (x : State). length x.records) state in omega (arith, low, all, same))))
-          (out.kept.crash q c may);
+      pages_left = subst (λ (x : State). LeavesPages p l pages log now.pages x.images (length x.records)) (sym state) left_pages;
     }
 
     -- a page could not be written out
-    pub not_written_out : (e : Refusal) → StopsOut p l s now e → NotWrittenOut p l pages log e now.pages now.log
-    not_written_out e stops = record {
+    pub not_written_out : (count : ℕ) (e : Refusal) → StopsOut p l count s now e → NotWrittenOut p l pages log e now.pages now.log
+    not_written_out count e stops = record {
       is = stops.is;
       failed = stops.failed ∙ ap (λ (n : ℕ). (n + 1) % 2 ^ 64) whole.opens.unfailed.0;
       unfailed = ap l.faults out.log ∙ whole.opens.unfailed.1;
       sizes = s.state.sizes;
       records = s.state.records;
-      checked = λ h. let w = whole.opens.checked (log_before h) in (w.0, checked_on s.state.sizes w.0 s.state.records s.pages now.pages s.log now.log out.kept.honest log_before w.2);
+      images = s.state.images;
+      pages_left = left_pages;
+      checked = λ h. checked_on s.state.sizes (paged (pooled s)) s.state.records s.pages now.pages s.log now.log out.kept.honest log_before (whole.opens.checked (log_before h));
       reads = λ h. ap l.seen out.log ∙ whole.opens.reads (log_before h);
       durable = λ h. subst (λ (d : L). Only (spelled s.state.records) (l.may_leave d)) (sym out.log) (whole.opens.durable (log_before h));
     }
@@ -260,7 +269,14 @@ module _ {P L : Type 0} (p : page_device.Ghosts P) (l : log_device.Ghosts L) (pa
   Kept o = KeepsFrames p l count s o.0 × (o.1 ≡ report)
 
   abbrev NotKept : Stopped P L → Type 0
-  NotKept x = (store : OpenStore P L) × (store.pages ≡ x.pages) × (store.log ≡ x.log) × StopsOut p l s store x.refusal
+  NotKept x = (store : OpenStore P L) × (store.pages ≡ x.pages) × (store.log ≡ x.log) × StopsOut p l count s store x.refusal
+
+  all_framed : p.honest s.pages → (z : Sizes) → IsSuperblock z (p.seen pages 0) → page_count z ≤ count + 1 → length s.frames ≤ count + 1
+  all_framed honest z told few =
+      let same : s.state.sizes ≡ z = one_size s.state.sizes z (p.seen pages 0) (whole.opens.sizes honest) told in
+      let frames : length s.frames ≡ page_count s.state.sizes = whole.opens.frames ∙ sym (at_most (page_count s.state.sizes)) in
+      let count_is = ap page_count same in
+      omega (arith, frames, count_is, few)
 
   pub opened_fewer : (r : Result (OpenStore P L × Report) (Stopped P L)) → IfOk r Kept → IfOk r (λ o. Opens p l pages log count o.0 o.1)
   opened_fewer (Ok o) k = subst (λ (t : Report). Opens p l pages log count o.0 t) (sym k.1) (opens_fewer p l pages log s o.0 report whole k.0.out count k.0.state k.0.counted k.0.stays k.0.count_is)
@@ -269,7 +285,7 @@ module _ {P L : Type 0} (p : page_device.Ghosts P) (l : log_device.Ghosts L) (pa
   pub refused_fewer : (r : Result (OpenStore P L × Report) (Stopped P L)) → IfErr r NotKept → IfErr r (λ x. Refuses p l pages log x.refusal x.pages x.log)
   refused_fewer (Ok o) k = tt
   refused_fewer (Err x) k =
-      let not : NotWrittenOut p l pages log x.refusal k.0.pages k.0.log = not_written_out p l pages log s k.0 report whole k.3.out x.refusal k.3 in
+      let not : NotWrittenOut p l pages log x.refusal k.0.pages k.0.log = not_written_out p l pages log s k.0 report whole k.3.out count x.refusal k.3 in
       let here : NotWrittenOut p l pages log x.refusal x.pages x.log = subst (λ (d : P). NotWrittenOut p l pages log x.refusal d x.log) k.1 (subst (λ (d : L). NotWrittenOut p l pages log x.refusal k.0.pages d) k.2 not) in
       refuses p l pages log x.refusal x.pages x.log (inr (inr here)) (inr here)
 
@@ -280,3 +296,11 @@ module _ {P L : Type 0} (p : page_device.Ghosts P) (l : log_device.Ghosts L) (pa
   left_fewer pages_some log_some pages_now log_now stores (Err y) k x =
       let kept = keeps_fewer p l pages log s x.0 report whole x.3.out pages_some log_some pages_now log_now stores in
       subst (λ (d : P). KeepsStores p l pages log d y.log) x.1 (subst (λ (d : L). KeepsStores p l pages log x.0.pages d) x.2 kept)
+
+  -- where there are frames enough the pages were only read
+  pub enough_frames : (r : Result (OpenStore P L × Report) (Stopped P L)) → IfOk r Kept → IfErr r NotKept → ReadWhereEnough p pages (pages_left r) count
+  enough_frames (Ok o) k x honest z told few =
+      let same = k.0.enough (all_framed (k.0.out.kept.honest honest) z told few) in
+      subst (λ (t : OpenStore P L). OnlyRead p pages t.pages) (sym same) whole.pages_read
+  enough_frames (Err y) k x honest z told few =
+      absurd (x.3.more (all_framed (x.3.out.kept.honest (subst p.honest (sym x.1) honest)) z told few))

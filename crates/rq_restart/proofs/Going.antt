@@ -1,5 +1,6 @@
 -- Going through a log, one record after the other.
 use Rattle.std.proofs.Common.{◌≡◌, ◌⊎◌, inl, inr, true, false, ℕ, ◌+◌, ◌-◌, ◌%◌, ◌^◌, ◌<◌, ◌≤◌, List, length-append, ◌∷◌, length, refl, sym, ◌∙◌, ap, subst, arith}
+use Rattle.rq_disk.specs.Device.{Images}
 use Rattle.rq_model.specs.declared.refusal.Refusal.{Refusal}
 use Rattle.rq_model.specs.declared.refusal.Refusal.TheVariants as why
 use Rattle.rq_model.specs.declared.refusal.Damage.TheVariants as damage
@@ -27,7 +28,7 @@ use Rattle.rq_analysis.proofs.Whole.{whole_logs}
 use Rattle.rq_restart.specs.declared.analysis.Analysis.{Analysis}
 use Rattle.rq_restart.specs.Found.{IsAnalysisOf, analysis_after}
 use Rattle.rq_restart.specs.Refused.{IsBadNext, IsStoppedBehind, IsWanting, NotRepeated}
-use Rattle.rq_restart.specs.Repeating.{Belongs, Paged, Repeats}
+use Rattle.rq_restart.specs.Repeating.{Belongs, Repeats}
 use Rattle.rq_record.specs.Spelling.{IsRecord, spelling}
 use Rattle.rq_restart.specs.Places.{places_after, places_of}
 use Rattle.rq_restart.proofs.Placing.{base_noted}
@@ -76,14 +77,13 @@ pub base_is : (r : Record) → is_base r ≡ true → (many : ℕ) × (i : ℕ) 
 base_is (records.Base many i) base = (many, i, refl)
 base_is _ base = absurd (cc base)
 
-pub base_repeated : (z : Sizes) (many i : ℕ) → 1 ≤ i → i ≤ many → (first last : Paged) → last ≡ first → Repeats z (records.Base many i ∷ marks many) first last
+pub base_repeated : (z : Sizes) (many i : ℕ) → 1 ≤ i → i ≤ many → (first last : Images) → last ≡ first → Repeats z (records.Base many i ∷ marks many) first last
 base_repeated z many i some within first last same = (
   last,
   same,
   record {
     belongs = record { next = (some, within); follows = record { running = tt; going = tt; begun = tt; numbered = tt; undoes = tt; takes_back = tt; reads = tt; begins = refl }; may = record { write = tt; before = tt } };
     redone = λ p. refl;
-    marked = refl;
   },
 )
 
@@ -94,9 +94,9 @@ stops_from g old met new front same counted why.DiskRead h = h ∙ ap (λ n. (n 
 stops_from g old met new front same counted (why.Damaged (damage.Record lsn)) h = (h.0, λ k. subst (IsDamagedBehind front) same (h.1 k), h.2 ∙ counted)
 stops_from g old met new front same counted _ h = absurd h
 
-module _ {L : Type 0} (g : Ghosts L) (z : Sizes) (first : Paged) (old new : L) where
+module _ {L : Type 0} (g : Ghosts L) (z : Sizes) (first : Images) (old new : L) where
   -- no more was read
-  pub stopped_here : (front : List Record) (mid : Paged) (e : Refusal) (met : L) → AreSpelled front → (g.honest new → BeginsWith front (g.seen old)) → Repeats z front first mid → IsRead g old new
+  pub stopped_here : (front : List Record) (mid : Images) (e : Refusal) (met : L) → AreSpelled front → (g.honest new → BeginsWith front (g.seen old)) → Repeats z front first mid → IsRead g old new
       → g.seen met ≡ g.seen old → g.faults met ≡ g.faults old → StopsFor g e front met new → IsStoppedBehind g z first e old new
   stopped_here front mid e met are begins repeated read same counted stops = record {
     front = front;
@@ -109,7 +109,7 @@ module _ {L : Type 0} (g : Ghosts L) (z : Sizes) (first : Paged) (old new : L) w
   }
 
   -- the record that was read was not repeated
-  pub stopped_next : (front : List Record) (r : Record) (mid : Paged) (e : Refusal) → is_base r ≡ false → IsRecord r → AreSpelled front → (g.honest new → BeginsWith (r ∷ front) (g.seen old)) → (g.honest new → BeginsWith front (g.seen old)) → Repeats z front first mid → IsRead g old new → g.faults new ≡ g.faults old
+  pub stopped_next : (front : List Record) (r : Record) (mid : Images) (e : Refusal) → is_base r ≡ false → IsRecord r → AreSpelled front → (g.honest new → BeginsWith (r ∷ front) (g.seen old)) → (g.honest new → BeginsWith front (g.seen old)) → Repeats z front first mid → IsRead g old new → g.faults new ≡ g.faults old
       → NotRepeated z front r mid e → IsStoppedBehind g z first e old new
   stopped_next front r mid e plain is are begins before repeated read counted not = record {
     front = front;
@@ -134,17 +134,17 @@ module _ {L : Type 0} (g : Ghosts L) (z : Sizes) (first : Paged) (old new : L) w
     by _ h = absurd h
 
 -- of a store that was left so, a record of its log belongs behind those before it, as they are read
-pub left_belongs : (z : Sizes) (log front : List Record) (r : Record) (first mid : Paged) → is_base r ≡ false → oldest (length (r ∷ front)) log ≡ r ∷ front → length (r ∷ front) ≤ length log → base_lsn front ≡ base_lsn log → IsLeft z first.image log → Repeats z (marked front) first mid
+pub left_belongs : (z : Sizes) (log front : List Record) (r : Record) (first mid : Images) → is_base r ≡ false → oldest (length (r ∷ front)) log ≡ r ∷ front → length (r ∷ front) ≤ length log → base_lsn front ≡ base_lsn log → IsLeft z first log → Repeats z (marked front) first mid
     → Belongs z (marked front) r mid
 left_belongs z log front r first mid plain grows within same left repeated =
     let i = length front in
     let up : i + 1 ≡ length (r ∷ front) = omega arith in
     let before : oldest i log ≡ front = first_less z log first left r front grows within in
     let grown : oldest (i + 1) log ≡ r ∷ oldest i log = ap (λ (n : ℕ). oldest n log) up ∙ grows ∙ ap (λ l. r ∷ l) (sym before) in
-    let fits : FitsUpTo z mid.image log i = (up_to z log first left front before (omega (arith, within)) same mid repeated).fits in
+    let fits : FitsUpTo z mid log i = (up_to z log first left front before (omega (arith, within)) same mid repeated).fits in
     let w : IsWhole z (r ∷ front) = subst (IsWhole z) grows (whole_dropped z (length log - length (r ∷ front)) log left.whole) in
     record {
       next = next_in (marked front) r plain (subst (λ (n : ℕ). IsNext n r) (sym (marked_incarnation front)) w.order.0);
       follows = whole_logs.one z front r w plain;
-      may = subst (λ (n : ℕ). MayRedo z mid.image (n + 1) r) (sym (marked_length front w.based.1)) (may_redo z log mid.image i r left.whole.legal left.whole.in_store left.whole.befores (omega (arith, within)) grown fits);
+      may = subst (λ (n : ℕ). MayRedo z mid (n + 1) r) (sym (marked_length front w.based.1)) (may_redo z log mid i r left.whole.legal left.whole.in_store left.whole.befores (omega (arith, within)) grown fits);
     }

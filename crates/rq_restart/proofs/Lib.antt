@@ -1,4 +1,5 @@
 pub mod Framing
+pub mod Marking
 pub mod Fewer
 pub mod Going
 pub mod Restarts

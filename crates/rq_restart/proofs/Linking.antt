@@ -1,5 +1,6 @@
 -- Chains that are not whole once the log is mended.
 use Rattle.std.proofs.Common.{◌≡◌, ℕ, List, refl}
+use Rattle.rq_disk.specs.Device.{Images}
 use Rattle.rq_restart.specs.Undoing.{FailsWith}
 use Rattle.rq_views.specs.Log.{Slots}
 use Rattle.rq_model.specs.declared.record.Record.{Record}
@@ -15,12 +16,12 @@ use Rattle.rq_chain_check.specs.Links.{AreLinked}
 use Rattle.rq_chain_check.proofs.Faults.{faults_exact}
 use Rattle.rq_chain_check.proofs.Sound.{sound_linked}
 use Rattle.rq_restart.specs.RolledBack.{IsRolledBackSince, LinkStops, RollbackStops}
-use Rattle.rq_restart.specs.Repeating.{Paged, Repeats, paged, slots_on}
+use Rattle.rq_restart.specs.Repeating.{Repeats, paged, slots_on}
 use Rattle.rq_restart.proofs.Begun.{begun_sound}
 
-module _ {P : Type 0} (z : Sizes) (log rolled_back : List Record) (old : Paged) (new : Pooled P) (m : IsRolledBackSince z log rolled_back old (paged new)) (pool : IsPool z new.images) (first : Paged) (before : Repeats z log first old) where
+module _ {P : Type 0} (z : Sizes) (log rolled_back : List Record) (old : Images) (new : Pooled P) (m : IsRolledBackSince z log rolled_back old (paged new)) (pool : IsPool z new.images) (first : Images) (before : Repeats z log first old) where
   -- of a store that was left so they are
-  left_linked : WhereLeft z first.image log (λ e. AreLinked z (slots_in z new.images))
+  left_linked : WhereLeft z first log (λ e. AreLinked z (slots_in z new.images))
   left_linked e past left = sound_linked.open_store z new.images (rebased e rolled_back) (begun_sound z first (paged new) new.images log rolled_back e refl pool m.is past (m.recovered first before e past left) (m.repeated first before) left)
 
   pub unlinked_stops : (e : Refusal) → LinkStops z (slots_on z (paged new)) e → RollbackStops z log first e

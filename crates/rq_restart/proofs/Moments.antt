@@ -13,7 +13,7 @@ use Rattle.rq_log.specs.Reading.{IsRead}
 use Rattle.rq_model.specs.declared.refusal.Refusal.{Refusal}
 use Rattle.rq_model.specs.declared.refusal.Refusal.TheVariants as why
 use Rattle.rq_restart.specs.Refused.{IsStoppedBehind}
-use Rattle.rq_restart.specs.Repeating.{Paged, Repeats}
+use Rattle.rq_restart.specs.Repeating.{Repeats}
 use Rattle.rq_restart.specs.Restarting.{IsBegunBehind, IsBegunOn, IsLogRead, LeavesLog, WasLeftOrBegun, WasLeftOrForced, BeginsAtMost}
 use Rattle.rq_disk.specs.Device.{Images}
 use Rattle.rq_page.specs.Sizes.{Sizes}
@@ -26,7 +26,7 @@ use Rattle.rq_restart.proofs.Begun.{begun_behind, last_is}
 use Rattle.rq_restart.proofs.Undos.{still}
 
 -- memory was wanting before anything was read
-pub stopped_at_once : {L : Type 0} (g : Ghosts L) (only_now : (d : L) (c : List ℕ) → g.left_since d (g.moment d) c → g.may_leave d c) (z : Sizes) (first : Paged) (e : Refusal) (old new : L) → e ≡ why.NoMemory → new ≡ old → IsStoppedBehind g z first e old new
+pub stopped_at_once : {L : Type 0} (g : Ghosts L) (only_now : (d : L) (c : List ℕ) → g.left_since d (g.moment d) c → g.may_leave d c) (z : Sizes) (first : Images) (e : Refusal) (old new : L) → e ≡ why.NoMemory → new ≡ old → IsStoppedBehind g z first e old new
 stopped_at_once g only_now z first e old new is same = record {
   front = [];
   are_spelled = tt;
@@ -38,10 +38,10 @@ stopped_at_once g only_now z first e old new is same = record {
 }
 
 -- the device of the log was only read
-pub left_alone : {L : Type 0} (g : Ghosts L) (z : Sizes) (pages : Paged) (old new : Logged L) → IsRead g old.device new.device → LeavesLog g z pages old new
+pub left_alone : {L : Type 0} (g : Ghosts L) (z : Sizes) (pages : Images) (old new : Logged L) → IsRead g old.device new.device → LeavesLog g z pages old new
 left_alone g z pages old new read = record {
   honest = read.honest;
-  any_moment = λ first before h are reads. weaker g old.device new.device (g.may_leave old.device) (WasLeftOrBegun g z first.image old.device old.records) read.moments (λ c left. inl left);
+  any_moment = λ first before h are reads. weaker g old.device new.device (g.may_leave old.device) (WasLeftOrBegun g z first old.device old.records) read.moments (λ c left. inl left);
 }
 
 -- records are forced behind what was read
@@ -62,13 +62,13 @@ begun_moment g z images older rolled_back r kept old mid new only m recovered is
     (λ c. ⊎_elim (λ was. inl (only.leaves c was)) (λ on. inr (begun_behind z images older rolled_back r kept (g.seen old) c m recovered is are read on.0 (subst (λ seen. GoesOn (standing (r ∷ rolled_back)) (kept - gone (r ∷ rolled_back)) seen c) only.same on.1)))))
 
 -- so it is of the log that was gone through, whether it was begun or not
-pub begun_left : {L : Type 0} (g : Ghosts L) (z : Sizes) (pages last : Paged) (old mid new : Logged L) → IsRead g old.device mid.device → (g.honest mid.device → IsRolledBackSince z old.records mid.records pages last) → (h : OpenWorkView) (count : ℕ) → h ≡ open_work_of mid.records → count ≡ h.incarnation
+pub begun_left : {L : Type 0} (g : Ghosts L) (z : Sizes) (pages last : Images) (old mid new : Logged L) → IsRead g old.device mid.device → (g.honest mid.device → IsRolledBackSince z old.records mid.records pages last) → (h : OpenWorkView) (count : ℕ) → h ≡ open_work_of mid.records → count ≡ h.incarnation
     → (g.honest new.device → g.honest mid.device) → (g.honest new.device → LeavesOnly g mid.device new.device (WasLeftOrForced g mid.device (records.Restart (count + 1) ∷ mid.records) mid.forced)) → LeavesLog g z pages old new
 begun_left g z pages last old mid new only since h count noted is honest run = record {
   honest = λ h. only.honest (honest h);
   any_moment = λ first before k are read.
       let m = since (honest k) in
-      begun_moment g z first.image old.records mid.records (records.Restart (count + 1)) mid.forced old.device mid.device new.device only m.is (m.recovered first before) (ap (λ n. records.Restart (n + 1)) (last_is mid.records h noted count is)) are read (run k);
+      begun_moment g z first old.records mid.records (records.Restart (count + 1)) mid.forced old.device mid.device new.device only m.is (m.recovered first before) (ap (λ n. records.Restart (n + 1)) (last_is mid.records h noted count is)) are read (run k);
 }
 
 -- beside these pages
@@ -89,7 +89,7 @@ module _ {L : Type 0} (g : Ghosts L) (z : Sizes) (images : Images) where
       (λ c. ⊎_elim (λ was. inl (crash c was)) (λ is. inr (record { older = older; reads = read; marks = marks; begun = subst (λ seen. IsBegunBehind z images older seen c) same is }))))
 
 -- the log was read whole beside pages that were first so, and then gone on with
-pub begins_at_most : {L : Type 0} (g : Ghosts L) (z y : Sizes) (first mid : Paged) (old : L) (read new : Logged L) → y ≡ z → IsLogRead g old read → (g.honest read.device → Repeats y read.records first mid) → LeavesLog g y mid read new → BeginsAtMost g z first.image old new.device
+pub begins_at_most : {L : Type 0} (g : Ghosts L) (z y : Sizes) (first mid : Images) (old : L) (read new : Logged L) → y ≡ z → IsLogRead g old read → (g.honest read.device → Repeats y read.records first mid) → LeavesLog g y mid read new → BeginsAtMost g z first old new.device
 begins_at_most g z y first mid old read new same was repeated left =
     let there : LeavesLog g z mid read new = subst (λ x. LeavesLog g x mid read new) same left in
-    read_first g z first.image old read.device new.device read.records was.marks there.honest was.reads was.are_spelled was.only.same was.only.leaves was.only.moments (λ h are reads. there.any_moment first (subst (λ x. Repeats x read.records first mid) same (repeated (there.honest h))) h are reads)
+    read_first g z first old read.device new.device read.records was.marks there.honest was.reads was.are_spelled was.only.same was.only.leaves was.only.moments (λ h are reads. there.any_moment first (subst (λ x. Repeats x read.records first mid) same (repeated (there.honest h))) h are reads)

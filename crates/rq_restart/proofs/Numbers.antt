@@ -2,12 +2,13 @@
 use Rattle.std.proofs.Common.{◌≡◌, ◌↔◌, inl, inr, ℕ, ◌+◌, ◌<◌, ◌≤◌, max, List, length, slice_index, slice_set, sym, ◌∙◌, subst, arith}
 use Rattle.std.proofs.lemmas.Bool.{cases_eq}
 use Rattle.std.proofs.lemmas.List.{get_or-set_other, get_or-set_same, length-set}
+use Rattle.rq_disk.specs.Device.{Images}
 use Rattle.rq_page.specs.Sizes.{Sizes, page_count}
 use Rattle.rq_page.specs.Pages.{lsn_of, slot_of}
 use Rattle.rq_page.specs.Formatted.{count_in}
 use Rattle.rq_store.specs.Opening.{IsCounted}
 use Rattle.rq_restart.specs.Numbers.{AreNumbersOf, IsFirstBeyond, NoneBeyond}
-use Rattle.rq_restart.specs.Repeating.{ArePagesCounted, IsFirstUncounted, Paged}
+use Rattle.rq_restart.specs.Repeating.{ArePagesCounted, IsFirstUncounted}
 
 -- ---- the greatest of a page
 
@@ -43,26 +44,26 @@ greatest_all z p image greatest k count = (
 -- ---- of each page
 
 -- those of the pages before this one
-pub record AreNumbersUpTo (z : Sizes) (pages : Paged) (n : ℕ) (numbers : List ℕ) : Type 0 where
+pub record AreNumbersUpTo (z : Sizes) (pages : Images) (n : ℕ) (numbers : List ℕ) : Type 0 where
   pub each : length numbers ≡ page_count z
-  pub same : (p count : ℕ) → 1 ≤ p → p < n → (slice_index numbers p ≤ count) ↔ IsCounted z count p (pages.image p)
+  pub same : (p count : ℕ) → 1 ≤ p → p < n → (slice_index numbers p ≤ count) ↔ IsCounted z count p (pages p)
 
-pub numbers_more : (z : Sizes) (pages : Paged) (n number : ℕ) (numbers : List ℕ) → n < page_count z → ((count : ℕ) → (number ≤ count) ↔ IsCounted z count n (pages.image n)) → AreNumbersUpTo z pages n numbers
+pub numbers_more : (z : Sizes) (pages : Images) (n number : ℕ) (numbers : List ℕ) → n < page_count z → ((count : ℕ) → (number ≤ count) ↔ IsCounted z count n (pages n)) → AreNumbersUpTo z pages n numbers
     → AreNumbersUpTo z pages (n + 1) (slice_set numbers n number)
 numbers_more z pages n number numbers high is k = record {
   each = length-set numbers n number ∙ k.each;
   same = λ p count first lt. elim (cases_eq p n) [
-    | inl same ↦ subst (λ q. (slice_index (slice_set numbers n number) q ≤ count) ↔ IsCounted z count q (pages.image q)) (sym same)
-        (subst (λ m. (m ≤ count) ↔ IsCounted z count n (pages.image n)) (sym (get_or-set_same numbers n number 0 (let e = k.each in omega (arith, high, e)))) (is count))
-    | inr ne ↦ subst (λ m. (m ≤ count) ↔ IsCounted z count p (pages.image p)) (sym (get_or-set_other numbers n p number 0 ne)) (k.same p count first (omega (arith, lt, ne)))
+    | inl same ↦ subst (λ q. (slice_index (slice_set numbers n number) q ≤ count) ↔ IsCounted z count q (pages q)) (sym same)
+        (subst (λ m. (m ≤ count) ↔ IsCounted z count n (pages n)) (sym (get_or-set_same numbers n number 0 (let e = k.each in omega (arith, high, e)))) (is count))
+    | inr ne ↦ subst (λ m. (m ≤ count) ↔ IsCounted z count p (pages p)) (sym (get_or-set_other numbers n p number 0 ne)) (k.same p count first (omega (arith, lt, ne)))
   ];
 }
 
-pub numbers_all : (z : Sizes) (pages : Paged) (numbers : List ℕ) → AreNumbersUpTo z pages (page_count z) numbers → AreNumbersOf z pages numbers
+pub numbers_all : (z : Sizes) (pages : Images) (numbers : List ℕ) → AreNumbersUpTo z pages (page_count z) numbers → AreNumbersOf z pages numbers
 numbers_all z pages numbers k = record { each = k.each; same = k.same }
 
 -- the first page with a number beyond the log is the first that is not counted
-pub first_uncounted : (z : Sizes) (records : ℕ) (first : Paged) (numbers : List ℕ) (page : ℕ) → AreNumbersOf z first numbers → IsFirstBeyond records numbers page → IsFirstUncounted z records first page
+pub first_uncounted : (z : Sizes) (records : ℕ) (first : Images) (numbers : List ℕ) (page : ℕ) → AreNumbersOf z first numbers → IsFirstBeyond records numbers page → IsFirstUncounted z records first page
 first_uncounted z records first numbers page k b =
     let high : page < page_count z = (let h = b.high in let e = k.each in omega (arith, h, e)) in
     record {
@@ -72,5 +73,5 @@ first_uncounted z records first numbers page k b =
       first = λ p low lt. (k.same p records low (omega (arith, lt, high))).0 (b.first p low lt);
     }
 
-pub none_uncounted : (z : Sizes) (records : ℕ) (first : Paged) (numbers : List ℕ) → AreNumbersOf z first numbers → NoneBeyond records numbers (length numbers) → ArePagesCounted z records first
+pub none_uncounted : (z : Sizes) (records : ℕ) (first : Images) (numbers : List ℕ) → AreNumbersOf z first numbers → NoneBeyond records numbers (length numbers) → ArePagesCounted z records first
 none_uncounted z records first numbers k none = λ p low high. (k.same p records low high).0 (none p low (let e = k.each in omega (arith, high, e)))

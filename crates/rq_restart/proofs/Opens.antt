@@ -1,5 +1,5 @@
 -- What a restart answers, by what was made of its pages and its log.
-use Rattle.std.proofs.Common.{◌≡◌, ◌⊎◌, ℕ, suc, ◌+◌, ◌≤◌, false, List, ◌∷◌, length, min, drop, replicate, inl, inr, refl, sym, ◌∙◌, ap, subst, arith}
+use Rattle.std.proofs.Common.{◌≡◌, ◌⊎◌, ⊎_elim, ℕ, zero, suc, ◌+◌, ◌<◌, ◌≤◌, Bool, true, false, List, ◌∷◌, length, min, drop, replicate, inl, inr, refl, sym, ◌∙◌, ap, subst, arith}
 use Rattle.std.proofs.lemmas.Bool.{cases_lt}
 use Rattle.rq_model.specs.declared.record.Record.{Record}
 use Rattle.rq_model.specs.declared.refusal.Refusal.{Refusal}
@@ -7,6 +7,7 @@ use Rattle.rq_model.specs.Bases.{earlier, marked}
 use Rattle.rq_model.specs.Commits.{committed_of}
 use Rattle.rq_model.specs.History.Entry.{Restarted}
 use Rattle.rq_model.specs.Ledger.{Ledger, after}
+use Rattle.rq_disk.specs.Device.{Images, Leaves}
 use Rattle.rq_disk.specs.declared.device.LogDevice as log_device
 use Rattle.rq_disk.specs.declared.device.PageDevice as page_device
 use Rattle.rq_groups.specs.Sent.{SentBy}
@@ -17,7 +18,7 @@ use Rattle.rq_page.specs.Pages.{lsn_of}
 use Rattle.rq_page.specs.Sizes.{Sizes, page_count}
 use Rattle.rq_pool.specs.Fixing.{AreForcedTo}
 use Rattle.rq_pool.specs.Held.{Held}
-use Rattle.rq_pool.specs.Pooled.{IsPool, Pooled}
+use Rattle.rq_pool.specs.Pooled.{IsPool, Pooled, is_changed}
 use Rattle.rq_pool.specs.Reading.{ArePages, AreSeen, IsSuperblock, OnlyRead}
 use Rattle.rq_sound.specs.Sound.{IsSound}
 use Rattle.rq_store.specs.Fitting.{AllFit, image_in}
@@ -33,7 +34,6 @@ use Rattle.rq_engine.specs.Crash.{AreFit}
 use Rattle.rq_engine.specs.Earlier.{on as on_earlier, over as over_earlier, rebased}
 use Rattle.rq_engine.specs.Opened.{OpenStore, pooled}
 use Rattle.rq_restart.specs.declared.restart.Report.{Report}
-use Rattle.rq_restart.specs.Checked.{as_read}
 use Rattle.rq_restart.specs.Opens.{Opens, OpensOver, OpensWhole, Recovers, Refuses}
 use Rattle.rq_restart.specs.Past.{IsPast, WhereLeft}
 use Rattle.rq_restart.specs.Repeating.{paged}
@@ -47,6 +47,12 @@ use Rattle.rq_restart.proofs.Restarts.{fit_begun, left_read, shut_over, told_on,
 
 pub at_most : (n : ℕ) → n ≡ min n (n + 1)
 at_most n = omega arith
+
+-- no page counts as changed
+none_marked : (n q : ℕ) → is_changed (replicate n false) q ≡ false
+none_marked zero q = refl
+none_marked (suc n) zero = refl
+none_marked (suc n) (suc q) = none_marked n q
 
 module _ {P L : Type 0} (p : page_device.Ghosts P) (l : log_device.Ghosts L) (pages : P) (log : L) where
   -- why it was refused tells so of devices that hold a store
@@ -69,9 +75,9 @@ module _ {P L : Type 0} (p : page_device.Ghosts P) (l : log_device.Ghosts L) (pa
       ]
     ];
   } where
-    log_shut : (y : Sizes) (images : List (List ℕ)) (older : List Record) → IsReadAs l log new_log older → StopsOver l y (as_read y images) e log new_log → MayBeShut (IsLeft y (image_in images) older) y older e (l.faults log) (l.faults new_log)
-    log_shut y images older r (inl stopped) = stopped_shut l y older (as_read y images) log new_log e r stopped
-    log_shut y images older r (inr read) = shut_over y read.0 older (as_read y images) e (l.faults log) (l.faults new_log) _ (λ marks. read_is read.0 older (l.seen log) marks read.1 r.are_spelled (read.2 r.honest) r.reads) r.are_spelled read.3
+    log_shut : (y : Sizes) (images : List (List ℕ)) (older : List Record) → IsReadAs l log new_log older → StopsOver l y (image_in images) e log new_log → MayBeShut (IsLeft y (image_in images) older) y older e (l.faults log) (l.faults new_log)
+    log_shut y images older r (inl stopped) = stopped_shut l y older (image_in images) log new_log e r stopped
+    log_shut y images older r (inr read) = shut_over y read.0 older (image_in images) e (l.faults log) (l.faults new_log) _ (λ marks. read_is read.0 older (l.seen log) marks read.1 r.are_spelled (read.2 r.honest) r.reads) r.are_spelled read.3
 
   -- what was checked of the store that was opened recovers the log that was read, where it was left so
   module _ (s : OpenStore P L) (report : Report) (pool : IsPool s.state.sizes s.state.images) (checked : WasChecked p l pages log s.state.sizes (paged (pooled s)) s.state.records s.pages s.log)
@@ -109,7 +115,7 @@ module _ {P L : Type 0} (p : page_device.Ghosts P) (l : log_device.Ghosts L) (pa
         let rolls = checked.rolled_back_on in
         let whole : WhereLeft z (image_in checked.images) checked.older (λ x. IsSound (opened z s.state.images (rebased x rolled_back))) = λ x past left.
         subst (λ rs. IsSound (opened z s.state.images (rebased x rs))) (ap (drop 1) (sym checked.begun))
-        (begun_sound z (as_read z checked.images) (paged (pooled s)) s.state.images checked.older checked.rolled_back x refl pool rolls.rolls_back past (rolls.recovered x past left) rolls.repeated left) in
+        (begun_sound z (image_in checked.images) (paged (pooled s)) s.state.images checked.older checked.rolled_back x refl pool rolls.rolls_back past (rolls.recovered x past left) rolls.repeated left) in
         subst (λ (k : State). IsSound (on_earlier e k)) (sym over.value.1)
         (sound_over z s.state.images (marked older) rolled_back e over.value.0 (past_of older read.are_spelled) based (left_there checked.older older same read.are_spelled whole left))
 
@@ -136,7 +142,7 @@ module _ {P L : Type 0} (p : page_device.Ghosts P) (l : log_device.Ghosts L) (pa
     recovers = record { sound = sound; recovered = recovered; entry = entry; fit = fit }
 
   -- an engine over what was made of the pages and of the log
-  module _ (loaded : Pooled P) (pages_sound : ArePages loaded.sizes loaded.images) (seen : p.honest loaded.device → AreSeen (p.seen pages) loaded.images (page_count loaded.sizes)) (unchanged : loaded.changed ≡ replicate (page_count loaded.sizes) false)
+  module _ (pages_now : (d : P) (c : Images) → p.left_since d (p.moment d) c → Leaves (p.may_be d) c) (loaded : Pooled P) (pages_sound : ArePages loaded.sizes loaded.images) (seen : p.honest loaded.device → AreSeen (p.seen pages) loaded.images (page_count loaded.sizes)) (unchanged : loaded.changed ≡ replicate (page_count loaded.sizes) false)
       (cause : p.faults loaded.device ≡ p.faults pages) (only : OnlyRead p pages loaded.device) (every : length loaded.frames ≡ page_count loaded.sizes) (now : Pooled P) (new : Logged L) (cells : ℕ) (waiting : List ℕ) (sent : SentBy) (planner : List LevelState) (report : Report) (o : OpensLog l loaded now log new cells waiting sent planner report) where
     abbrev pub engine : OpenStore P L
     engine = record {
@@ -189,6 +195,16 @@ module _ {P L : Type 0} (p : page_device.Ghosts P) (l : log_device.Ghosts L) (pa
     checked : l.honest new.device → WasChecked p l pages log now.sizes (paged now) new.records now.device new.device
     checked = was_checked p l pages log loaded pages_sound seen unchanged now new cells waiting sent planner report o
 
+    -- none counted as changed as it was read
+    newer : p.honest now.device → (q : ℕ) → q < page_count now.sizes → is_changed now.changed q ≡ true → lsn_of (p.seen pages q) < lsn_of (image_in now.images q)
+    newer h q high e = elim (o.marked.newer q e) [
+      | inl was ↦ absurd (let bad : true ≡ false = sym was ∙ ap (λ (c : List Bool). is_changed c q) unchanged ∙ none_marked (page_count loaded.sizes) q in cc bad)
+      | inr since ↦
+          let as_read : image_in loaded.images q ≡ p.seen pages q = seen (subst p.honest o.device h) q (subst (λ (z : Sizes). q < page_count z) o.sizes high) in
+          let same = ap lsn_of as_read in
+          omega (arith, since, same)
+    ]
+
     read : OnlyRead p pages now.device
     read = subst (OnlyRead p pages) (sym o.device) only
 
@@ -196,7 +212,8 @@ module _ {P L : Type 0} (p : page_device.Ghosts P) (l : log_device.Ghosts L) (pa
     opens =
         record {
           sizes = λ h. subst (λ z. IsSuperblock z (p.seen pages 0)) (sym o.sizes) (told_on loaded.sizes (p.seen pages) loaded.images pages_sound (seen (subst p.honest o.device h)));
-          checked = λ h. (paged now, record { image = λ q. refl; changed = λ q e. e; framed = λ q f. refl }, checked h);
+          checked = checked;
+          marked = newer;
           over = all;
           recovers = λ older r on. recovers engine report o.pool (checked r.honest) older r (all older r) on (fits older r);
           reads = o.restarted.ready.reads;
@@ -204,8 +221,14 @@ module _ {P L : Type 0} (p : page_device.Ghosts P) (l : log_device.Ghosts L) (pa
           untried = refl;
           unfailed = (ap p.faults o.device ∙ cause, o.restarted.cause ∙ o.was_read.counted);
           frames = in_frames ∙ at_most (page_count now.sizes);
-          pages_left = λ q c may. inl (read.crash q c may);
+          pages_left = record {
+            now = λ q c may. inl (read.crash q c may);
+            moments = record {
+              later = read.time.later;
+              each = λ images since q. inl (⊎_elim (λ past. pages_now pages images past q) (λ now. now q) (read.time.nothing_else (p.moment pages) images (omega arith) since));
+            };
+          };
         }
 
     pub opens_whole : OpensWhole p l pages log engine report
-    opens_whole = record { opens = opens; checked = checked; pages_read = read; running = refl; idle = refl; forced = o.restarted.forced; ahead = none_ahead }
+    opens_whole = record { opens = opens; pages_read = read; running = refl; idle = refl; forced = o.restarted.forced; ahead = none_ahead }

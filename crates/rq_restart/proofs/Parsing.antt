@@ -2,6 +2,7 @@
 use Rattle.std.proofs.Common.{◌≡◌, ⊎_elim, ◌+◌, ◌-◌, ◌<◌, ◌≤◌, ℕ, zero, suc, false, drop, List, [], ◌∷◌, ◌++◌, length, reverse, refl, sym, ◌∙◌, ap, subst, inl, inr, arith, length-append}
 use Rattle.std.proofs.lemmas.Bool.{true≢false}
 use Rattle.std.proofs.lemmas.List.{drop_at, length-drop, reverse-append, reverse-reverse}
+use Rattle.rq_disk.specs.Device.{Images}
 use Rattle.rq_model.specs.declared.record.Record.{Record}
 use Rattle.rq_model.specs.declared.record.Record.TheVariants.{Base}
 use Rattle.rq_model.specs.Bases.{IsMarked, base_lsn, gone, is_base, marked, standing}
@@ -15,7 +16,7 @@ use Rattle.rq_model.specs.declared.refusal.Refusal.{Refusal}
 use Rattle.rq_model.specs.declared.refusal.Refusal.TheVariants as why
 use Rattle.rq_model.specs.declared.refusal.Damage.TheVariants as damage
 use Rattle.rq_page.specs.Sizes.{Sizes}
-use Rattle.rq_restart.specs.Repeating.{Belongs, Paged, Repeats}
+use Rattle.rq_restart.specs.Repeating.{Belongs, Repeats}
 use Rattle.rq_restart.specs.Restarting.{IsReadAs}
 use Rattle.rq_analysis.specs.Recovered.IsRecovering.{Undoing}
 use Rattle.rq_analysis.proofs.Marked.{marked_length}
@@ -86,17 +87,17 @@ same_head (Base many i) r front rest plain e = absurd (let is : Base many i ≡ 
 same_head x r front rest plain e = (let is : x ≡ r = cc in is, let is : standing front ≡ rest = cc in is)
 
 -- why going through the log stopped is why the store stays shut
-pub stopped_shut : {L : Type 0} (g : Ghosts L) (z : Sizes) (older : List Record) (first : Paged) (old new : L) (e : Refusal) → IsReadAs g old new older → IsStoppedBehind g z first e old new → MayBeShut (IsLeft z first.image older) z older e (g.faults old) (g.faults new)
+pub stopped_shut : {L : Type 0} (g : Ghosts L) (z : Sizes) (older : List Record) (first : Images) (old new : L) (e : Refusal) → IsReadAs g old new older → IsStoppedBehind g z first e old new → MayBeShut (IsLeft z first older) z older e (g.faults old) (g.faults new)
 stopped_shut g z older first old new e r s = elim s.why [
   | inl stops ↦ by e stops
-  | inr (inl wanting) ↦ subst (λ x. MayBeShut (IsLeft z first.image older) z older x (g.faults old) (g.faults new)) (sym wanting.0) wanting.1
-  | inr (inr bad) ↦ subst (λ x. MayBeShut (IsLeft z first.image older) z older x (g.faults old) (g.faults new)) (sym bad.told) (none_bad bad)
+  | inr (inl wanting) ↦ subst (λ x. MayBeShut (IsLeft z first older) z older x (g.faults old) (g.faults new)) (sym wanting.0) wanting.1
+  | inr (inr bad) ↦ subst (λ x. MayBeShut (IsLeft z first older) z older x (g.faults old) (g.faults new)) (sym bad.told) (none_bad bad)
 ] where
   marks : IsMarked s.front
   marks = follow_marked s.front (repeated_read z s.front first s.mid s.repeated).1
 
   -- the next record belongs there
-  none_bad : IsBadNext g z s.front s.mid e old new → IsLeft z first.image older → ⊥
+  none_bad : IsBadNext g z s.front s.mid e old new → IsLeft z first older → ⊥
   none_bad bad left =
       let q = bad.newest in
       let begins = bad.begins r.honest in
@@ -118,7 +119,7 @@ stopped_shut g z older first old new e r s = elim s.why [
             let belongs = left_belongs z older front bad.newest first s.mid bad.plain grows within base left (subst (λ (l : List Record). Repeats z l first s.mid) rest s.repeated) in
             bad.bad (subst (λ (l : List Record). Belongs z l bad.newest s.mid) (sym rest) belongs)
 
-  by : (x : Refusal) → StopsFor g x s.front old new → MayBeShut (IsLeft z first.image older) z older x (g.faults old) (g.faults new)
+  by : (x : Refusal) → StopsFor g x s.front old new → MayBeShut (IsLeft z first older) z older x (g.faults old) (g.faults new)
   by why.LogFull h = λ left.
       let more = h.1 r.honest in
       let most = front_within older s.front (g.seen old) more.0 r.are_spelled s.are_spelled r.reads more.2 marks left.whole.based in

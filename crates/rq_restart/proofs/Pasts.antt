@@ -29,7 +29,6 @@ use Rattle.rq_store.specs.State.{State}
 use Rattle.rq_store.specs.Steps.{page_op}
 use Rattle.rq_restart.specs.Aborting.{AbortsBehind, IsAborting, Round, after_round, after_rounds, with_writes}
 use Rattle.rq_restart.specs.Aborting.IsAborting.{Between, Within}
-use Rattle.rq_restart.specs.Repeating.{Paged}
 use Rattle.rq_restart.specs.Aborting.Round.{Ends, TakesBack}
 use Rattle.rq_restart.specs.Restarting.{IsOpenedOver}
 use Rattle.rq_restart.specs.RolledBack.{IsRolledBack}
@@ -195,7 +194,7 @@ module _ (e : List Record) where
   pub behind_added : (log now : List Record) → AbortsBehind log now → IsAddedOn log now
   behind_added log now a = subst (IsAddedOn log) a.are (rounds_added a.rounds log)
 
-  pub aborting_added : (z : Sizes) (on : List Record → Paged → Type 0) (log now : List Record) → IsAborting z on log now → IsAddedOn log now
+  pub aborting_added : (z : Sizes) (on : List Record → Images → Type 0) (log now : List Record) → IsAborting z on log now → IsAddedOn log now
   aborting_added z on log now (Between a) = behind_added log now a.behind
   aborting_added z on log now (Within older d n ws made a next plan are) = subst (IsAddedOn log) are (added_join log older (with_writes d.txn n (take made ws) older) (behind_added log older a.behind) (writes_added d.txn n (take made ws) older))
 

@@ -1,5 +1,6 @@
 -- What a restart makes of a store that was left as a crash may leave one.
 use Rattle.std.proofs.Common.{◌≡◌, ◌≢◌, refl, ℕ, ◌<◌, ◌≤◌, List, ◌∷◌, ◌++◌, length, false, sym, ◌∙◌, ap, subst, inl, inr, ◌⊎◌, ⊎_elim, arith, Bool, replicate}
+use Rattle.rq_disk.specs.Device.{Images}
 use Rattle.rq_model.specs.declared.record.Record.{Record}
 use Rattle.rq_model.specs.declared.refusal.Refusal.{Refusal}
 use Rattle.rq_model.specs.declared.refusal.Refusal.TheVariants as why
@@ -25,10 +26,10 @@ use Rattle.rq_log.proofs.Moments.{weaker}
 use Rattle.rq_restart.specs.Restarting.{BeginsAtMost, BeginsFrom, IsBegun, IsBegunFrom, IsBegunOn, LogStops, IsRefusedFor, OpensLog, RefusesLog, WasChecked}
 use Rattle.rq_restart.specs.Refused.{BeginsNot, MayBeShut, WhyShut}
 use Rattle.rq_restart.specs.Numbers.{AreNumbersOf, NamesFirst}
-use Rattle.rq_restart.specs.Checked.{IsReadAndRedone, WasReadAndRedone, as_read}
+use Rattle.rq_restart.specs.Checked.{IsReadAndRedone, WasReadAndRedone}
 use Rattle.rq_restart.specs.RolledBack.{IsRolledBackOn, RollbackStops}
 use Rattle.rq_restart.specs.Undoing.{FailsWith}
-use Rattle.rq_restart.specs.Repeating.{ArePagesCounted, Paged, paged, Repeats}
+use Rattle.rq_restart.specs.Repeating.{ArePagesCounted, paged, Repeats}
 use Rattle.rq_engine.specs.Earlier.{rebased}
 use Rattle.rq_model.specs.Bases.{IsMarked, earlier, marked}
 use Rattle.rq_model.specs.Incarnations.{Extends}
@@ -41,7 +42,7 @@ use Rattle.rq_restart.proofs.Repeated.{follow_marked, repeated_counted, repeated
 use Rattle.rq_restart.proofs.Pasts.{aborting_added, added_join, begun_added, earlier_back, length_on, mended_added, past_of, undoing_added}
 
 -- of a device that was left alone, what follows from that
-pub shut_by : {U V : Type 0} (z : Sizes) (log : List Record) (first : Paged) (e : Refusal) (before now : ℕ) → (U → V) → WhyShut z log first e before now U → WhyShut z log first e before now V
+pub shut_by : {U V : Type 0} (z : Sizes) (log : List Record) (first : Images) (e : Refusal) (before now : ℕ) → (U → V) → WhyShut z log first e before now U → WhyShut z log first e before now V
 shut_by z log first why.NoMemory before now f h = (h.0, f h.1)
 shut_by z log first why.DiskRead before now f h = (h.0, h.1, f h.2)
 shut_by z log first why.LogFull before now f h = (h.0, h.1, f h.2)
@@ -63,16 +64,13 @@ begins_untouched why.LogFull records last before now untouched other b = b.1
 begins_untouched why.DiskWrite records last before now untouched other b = absurd (other refl)
 begins_untouched _ records last before now untouched other b = absurd b
 
-pub names_fail : (z : Sizes) (records : ℕ) (first : Paged) (e : Refusal) (count : ℕ) → NamesFirst z records first e → FailsWith e count count
+pub names_fail : (z : Sizes) (records : ℕ) (first : Images) (e : Refusal) (count : ℕ) → NamesFirst z records first e → FailsWith e count count
 names_fail z records first (why.Damaged (damage.Page page)) count h = refl
 names_fail z records first _ count h = absurd h
 
 -- what was checked, of a store that was read
 module _ {P L : Type 0} (p : Ghosts P) (l : log_device.Ghosts L) (pages : P) (log : L) (loaded : Pooled P) (sound : ArePages loaded.sizes loaded.images) (seen : p.honest loaded.device → AreSeen (p.seen pages) loaded.images (page_count loaded.sizes))
     (unchanged : loaded.changed ≡ replicate (page_count loaded.sizes) false) where
-  first_is : paged loaded ≡ as_read loaded.sizes loaded.images
-  first_is = ap (λ (f : List Bool). record { image = image_in loaded.images; changed = f }) unchanged
-
   pub was_checked : (now : Pooled P) (new : Logged L) (cells : ℕ) (waiting : List ℕ) (sent : SentBy) (planner : List LevelState) (report : Report) → OpensLog l loaded now log new cells waiting sent planner report → l.honest new.device → WasChecked p l pages log now.sizes (paged now) new.records now.device new.device
   was_checked now new cells waiting sent planner report o honest =
       let repeated = o.repeated honest in
@@ -88,7 +86,7 @@ module _ {P L : Type 0} (p : Ghosts P) (l : log_device.Ghosts L) (pages : P) (lo
         are_spelled = o.was_read.are_spelled;
         reads = λ h. o.was_read.reads (o.honest h);
         rolled_back = repeated.rolled_back;
-        rolled_back_on = subst (λ first. IsRolledBackOn loaded.sizes o.read.records repeated.rolled_back first (paged now)) first_is repeated.rolled_back_on;
+        rolled_back_on = repeated.rolled_back_on;
         begun = repeated.begun;
         room = omega (arith, n, e);
       }))
@@ -101,7 +99,7 @@ module _ {P L : Type 0} (p : Ghosts P) (l : log_device.Ghosts L) (pages : P) (lo
         sound,
         (λ honest. seen (subst p.honest h.same honest)),
         ap p.faults h.same ∙ cause,
-        subst (λ first. LogStops l loaded.sizes first e log new_log) first_is h.stops,
+        h.stops,
       ))
 
   -- what a crash leaves of the log, beside the pages that were read
@@ -120,12 +118,12 @@ counted_left : (z : Sizes) (image : ℕ → List ℕ) (older : List Record) (p :
 counted_left z image older p left low high = fits_counted z older p (image p) left.whole.legal (left.fits.pages p low high)
 
 -- the first page with a number beyond the log, once history is repeated
-pub beyond_shut : (z : Sizes) (older : List Record) (first last : Paged) (e : Refusal) (before now : ℕ) (untouched : Type 0) → Repeats z older first last → untouched → NamesFirst z (length older) first e → WhyShut z older first e before now untouched
+pub beyond_shut : (z : Sizes) (older : List Record) (first last : Images) (e : Refusal) (before now : ℕ) (untouched : Type 0) → Repeats z older first last → untouched → NamesFirst z (length older) first e → WhyShut z older first e before now untouched
 beyond_shut z older first last (why.Damaged (damage.Page page)) before now untouched repeated here h = (inl (record { last = last; repeated = repeated; beyond = h }), here)
 beyond_shut z older first last _ before now untouched repeated here h = absurd h
 
 -- why a store stays shut tells why it may
-pub shut_left : (z : Sizes) (log : List Record) (first : Paged) (why : Refusal) (before now : ℕ) (untouched : Type 0) (e : List Record) → IsPast e log → WhyShut z log first why before now untouched → MayBeShut (IsLeft z first.image (rebased e log)) z (rebased e log) why before now
+pub shut_left : (z : Sizes) (log : List Record) (first : Images) (why : Refusal) (before now : ℕ) (untouched : Type 0) (e : List Record) → IsPast e log → WhyShut z log first why before now untouched → MayBeShut (IsLeft z first (rebased e log)) z (rebased e log) why before now
 shut_left z log first why.NoMemory before now untouched e past h = h.0
 shut_left z log first why.LogFull before now untouched e past h = λ left.
     let room = h.0 in
@@ -141,19 +139,19 @@ shut_left z log first (why.Damaged (damage.Record lsn)) before now untouched e p
   | inr rollback ↦ rollback.none e past left
 ]
 shut_left z log first (why.Damaged (damage.Page page)) before now untouched e past h = λ left. elim h.0 [
-  | inl beyond ↦ beyond.beyond.bad (subst (λ (n : ℕ). IsCounted z n page (first.image page)) (length_on e log past left.whole.based) (counted_left z first.image (rebased e log) page left beyond.beyond.low beyond.beyond.high))
+  | inl beyond ↦ beyond.beyond.bad (subst (λ (n : ℕ). IsCounted z n page (first page)) (length_on e log past left.whole.based) (counted_left z first (rebased e log) page left beyond.beyond.low beyond.beyond.high))
   | inr unlinked ↦ unlinked.0.none e past left
 ]
 shut_left z log first _ before now untouched e past h = absurd h
 
 -- it was gone through, and no number of the pages is beyond it
-pub gone_through : (z : Sizes) (log : List Record) (first last : Paged) (n : ℕ) (numbers : List ℕ) → n ≡ length log → ((y : Sizes) (p : Paged) → AreNumbersOf y p numbers → ArePagesCounted y n p) → Repeats z log first last → AreNumbersOf z first numbers → IsReadAndRedone z log first last
+pub gone_through : (z : Sizes) (log : List Record) (first last : Images) (n : ℕ) (numbers : List ℕ) → n ≡ length log → ((y : Sizes) (p : Images) → AreNumbersOf y p numbers → ArePagesCounted y n p) → Repeats z log first last → AreNumbersOf z first numbers → IsReadAndRedone z log first last
 gone_through z log first last n numbers e counted before k =
     let read : ArePagesCounted z (length log) first = subst (λ m. ArePagesCounted z m first) e (counted z first k) in
     record { repeated = before; counted_read = read; counted = repeated_counted z (length log) log first last before (omega arith) read }
 
 -- why what had no end was not undone, or was and left chains that are not whole
-pub rollback_shut : (z : Sizes) (log : List Record) (first : Paged) (e : Refusal) (before now : ℕ) (untouched : Type 0) → WasReadAndRedone z log first → FailsWith e before now → untouched → RollbackStops z log first e → WhyShut z log first e before now untouched
+pub rollback_shut : (z : Sizes) (log : List Record) (first : Images) (e : Refusal) (before now : ℕ) (untouched : Type 0) → WasReadAndRedone z log first → FailsWith e before now → untouched → RollbackStops z log first e → WhyShut z log first e before now untouched
 rollback_shut z log first why.NoMemory before now untouched was same here s = (same, here)
 rollback_shut z log first why.DiskRead before now untouched was more here s = (more, was, here)
 rollback_shut z log first why.LogFull before now untouched was same here s = (s, was, here)
@@ -162,18 +160,18 @@ rollback_shut z log first (why.Damaged (damage.Page page)) before now untouched 
 rollback_shut z log first _ before now untouched was same here s = absurd s
 
 -- so it is of any log that reads so
-pub shut_over : (z : Sizes) (log older : List Record) (first : Paged) (e : Refusal) (before now : ℕ) (untouched : Type 0) → (IsMarked log → log ≡ marked older) → AreSpelled older → WhyShut z log first e before now untouched → MayBeShut (IsLeft z first.image older) z older e before now
+pub shut_over : (z : Sizes) (log older : List Record) (first : Images) (e : Refusal) (before now : ℕ) (untouched : Type 0) → (IsMarked log → log ≡ marked older) → AreSpelled older → WhyShut z log first e before now untouched → MayBeShut (IsLeft z first older) z older e before now
 shut_over z log older first e before now untouched is told h = each e h where
-  marks : (last : Paged) → Repeats z log first last → log ≡ marked older
+  marks : (last : Images) → Repeats z log first last → log ≡ marked older
   marks last repeated = is (follow_marked log (repeated_read z log first last repeated).1)
 
-  over : (e : Refusal) → log ≡ marked older → WhyShut z log first e before now untouched → MayBeShut (IsLeft z first.image older) z older e before now
+  over : (e : Refusal) → log ≡ marked older → WhyShut z log first e before now untouched → MayBeShut (IsLeft z first older) z older e before now
   over e same h =
       let x : List Record = earlier older in
-      subst (λ (l : List Record). MayBeShut (IsLeft z first.image l) z l e before now) (ap (rebased x) same ∙ earlier_back older told)
+      subst (λ (l : List Record). MayBeShut (IsLeft z first l) z l e before now) (ap (rebased x) same ∙ earlier_back older told)
       (shut_left z log first e before now untouched x (subst (IsPast x) (sym same) (past_of older told)) h)
 
-  each : (e : Refusal) → WhyShut z log first e before now untouched → MayBeShut (IsLeft z first.image older) z older e before now
+  each : (e : Refusal) → WhyShut z log first e before now untouched → MayBeShut (IsLeft z first older) z older e before now
   each why.NoMemory h = h.0
   each why.DiskRead h = h.0
   each why.DiskWrite h = h.0

@@ -1,5 +1,6 @@
 -- What mends a log: operations without an end are undone by pages, and then lost transactions by their inverses.
 use Rattle.std.proofs.Common.{◌≡◌, ◌≢◌, ◌++◌, List, [], ◌∷◌, length, map, Some, None, inl, inr, refl, sym, ◌∙◌, ap, subst, arith}
+use Rattle.rq_disk.specs.Device.{Images}
 use Rattle.rq_model.specs.declared.record.Record.{Record}
 use Rattle.rq_model.specs.declared.refusal.Refusal.{Refusal}
 use Rattle.rq_model.specs.declared.refusal.Refusal.TheVariants as why
@@ -40,7 +41,7 @@ use Rattle.rq_restart.specs.Past.{IsPast}
 use Rattle.rq_restart.specs.Aborting.IsOnItsWay.{Between, Within}
 use Rattle.rq_restart.specs.Checked.{IsEnded}
 use Rattle.rq_restart.specs.RolledBack.{IsRolledBackSince, RollbackStops}
-use Rattle.rq_restart.specs.Repeating.{Paged, Repeats, paged}
+use Rattle.rq_restart.specs.Repeating.{Repeats, paged}
 use Rattle.rq_restart.specs.Undoing.{UndoStops}
 use Rattle.rq_restart.proofs.Aborts.{aborting_none, aborting_weaker, bad_weaker, planned_weaker, active_lost}
 use Rattle.rq_restart.proofs.Lefts.{left_undoing}
@@ -70,7 +71,7 @@ no_rows [] e = refl
 no_rows (r ∷ rows) e = absurd (cc e)
 
 -- what is undone by pages of a store that was left so, on pages that it was repeated on
-module _ {P : Type 0} (z : Sizes) (log undone : List Record) (mid : Pooled P) (u : IsUndone log undone) (pool : IsPool z mid.images) (first : Paged) (e : List Record) (past : IsPast e log) (left : IsLeft z first.image (rebased e log)) (repeated : Repeats z undone first (paged mid)) where
+module _ {P : Type 0} (z : Sizes) (log undone : List Record) (mid : Pooled P) (u : IsUndone log undone) (pool : IsPool z mid.images) (first : Images) (e : List Record) (past : IsPast e log) (left : IsLeft z first (rebased e log)) (repeated : Repeats z undone first (paged mid)) where
   -- the log, and what was undone of it
   abbrev all : List Record
   all = rebased e log
@@ -87,8 +88,8 @@ module _ {P : Type 0} (z : Sizes) (log undone : List Record) (mid : Pooled P) (u
   undone_there : IsUndone all then
   undone_there = undone_on e log past left.whole.based undone u
 
-  there : IsLeft z first.image then
-  there = left_undoing z first.image all then left undone_there.undoing
+  there : IsLeft z first then
+  there = left_undoing z first all then left undone_there.undoing
 
   from : IsUndoneFrom z all then
   from = undone_from z all then left.whole undone_there
@@ -173,14 +174,14 @@ module _ {P : Type 0} (z : Sizes) (log undone : List Record) (mid : Pooled P) (u
     by (t ∷ ts) is = all_recovered (λ bad. (let k : t ∷ ts ≡ [] = sym is ∙ bad in cc k)) now new g ended
 
 -- why operations were not undone, or then transactions, is why the log was not mended
-pub undo_rolls_nothing_back : (z : Sizes) (log : List Record) (first : Paged) (e : Refusal) → UndoStops z log first e → RollbackStops z log first e
+pub undo_rolls_nothing_back : (z : Sizes) (log : List Record) (first : Images) (e : Refusal) → UndoStops z log first e → RollbackStops z log first e
 undo_rolls_nothing_back z log first why.NoMemory s = tt
 undo_rolls_nothing_back z log first why.DiskRead s = tt
 undo_rolls_nothing_back z log first why.LogFull s = record { undone = s.undone; undoing = s.undoing; now = s.undone; aborting = aborting_none z (RepeatedFrom z first) s.undone; turn = inl refl; none_lost = λ e. refl; full = s.full; recovering = λ e past left. Undoing (undoing_on e log past left.whole.based s.undone s.undoing) }
 undo_rolls_nothing_back z log first (why.Damaged (damage.Record lsn)) s = inl s
 undo_rolls_nothing_back z log first _ s = absurd s
 
-pub abort_rolls_nothing_back : {P : Type 0} (z : Sizes) (log undone : List Record) (mid : Pooled P) → IsUndone log undone → IsPool z mid.images → (IsEnded undone → ⊥) → (first : Paged) → Repeats z undone first (paged mid) → (e : Refusal) → AbortingStops z undone mid e → RollbackStops z log first e
+pub abort_rolls_nothing_back : {P : Type 0} (z : Sizes) (log undone : List Record) (mid : Pooled P) → IsUndone log undone → IsPool z mid.images → (IsEnded undone → ⊥) → (first : Images) → Repeats z undone first (paged mid) → (e : Refusal) → AbortingStops z undone mid e → RollbackStops z log first e
 abort_rolls_nothing_back z log undone mid u pool some first repeated why.NoMemory s = tt
 abort_rolls_nothing_back z log undone mid u pool some first repeated why.DiskRead s = tt
 abort_rolls_nothing_back z log undone mid u pool some first repeated why.LogFull s = record {
@@ -204,7 +205,7 @@ abort_rolls_nothing_back z log undone mid u pool some first repeated (why.Damage
 abort_rolls_nothing_back z log undone mid u pool some first repeated _ s = absurd s
 
 -- what mends it from there, wherever the log was repeated so
-pub rolled_back_since : {P : Type 0} (z : Sizes) (log undone now : List Record) (old mid new : Pooled P) → mid.sizes ≡ z → IsUndone log undone → IsPool mid.sizes mid.images → ((first : Paged) → Repeats z log first (paged old) → Repeats z undone first (paged mid))
+pub rolled_back_since : {P : Type 0} (z : Sizes) (log undone now : List Record) (old mid new : Pooled P) → mid.sizes ≡ z → IsUndone log undone → IsPool mid.sizes mid.images → ((first : Images) → Repeats z log first (paged old) → Repeats z undone first (paged mid))
     → HasAborted mid.sizes undone mid now new → IsEnded now → (IsEnded undone → now ≡ undone) → IsRolledBackSince z log now (paged old) (paged new)
 rolled_back_since z log undone now old mid new same u in_pool before went ended none =
     let gone : HasAborted z undone mid now new = subst (λ y. HasAborted y undone mid now new) same went in

@@ -3,6 +3,7 @@ use Rattle.std.proofs.Common.{◌≡◌, ℕ, zero, suc, ◌+◌, ◌<◌, ◌�
 use Rattle.std.specs.List.{slice_get}
 use Rattle.std.proofs.lemmas.Bool.{cases_lt, and_parts, or_cases, eqb-true, false≢true}
 use Rattle.std.proofs.lemmas.List.{length-map}
+use Rattle.rq_disk.specs.Device.{Images}
 use Rattle.rq_model.specs.declared.record.Record.{Record}
 use Rattle.rq_model.specs.declared.record.Record.TheVariants as records
 use Rattle.rq_model.specs.declared.refusal.Refusal.{Refusal}
@@ -56,7 +57,7 @@ use Rattle.rq_restart.specs.Again.{NotToldFor}
 use Rattle.rq_restart.specs.Checked.{IsEnded}
 use Rattle.rq_disk.specs.declared.device.LogDevice.{Ghosts}
 use Rattle.rq_restart.specs.Found.{IsAnalysisOf}
-use Rattle.rq_restart.specs.Repeating.{Belongs, IsRecordRedone, Paged, Repeats, paged}
+use Rattle.rq_restart.specs.Repeating.{Belongs, IsRecordRedone, Repeats, paged}
 use Rattle.rq_restart.proofs.Aborts.{aborting_none, active_lost}
 use Rattle.rq_restart.proofs.DueLists.{nobody_left, one_next, own_stay}
 use Rattle.rq_restart.proofs.Planning.{lowest_is, plan_is, shows_can}
@@ -139,7 +140,7 @@ module _ {P : Type 0} (z : Sizes) (log : List Record) (old : Pooled P) (f : Anal
         let h = holds x base k same b in
         let w = (between_holds base old.images (records.AbortEnd t ∷ rebased x log) k (then x base k same b)).whole in
         subst (λ l. Belongs z l (records.AbortEnd t) (paged old)) b.0
-        (subst (λ y. Belongs y (marked (rebased x log)) (records.AbortEnd t) (paged old)) same (belongs_next base.sizes old.images (rebased x log) (records.AbortEnd t) h w old.changed refl))
+        (subst (λ y. Belongs y (marked (rebased x log)) (records.AbortEnd t) (paged old)) same (belongs_next base.sizes old.images (rebased x log) (records.AbortEnd t) h w refl))
 
     pub end_shown : (new : Pooled P) → new ≡ old → OfStore z shown (IsShown (records.AbortEnd t ∷ log) new)
     end_shown new is x base k same b = (
@@ -203,7 +204,7 @@ module _ {P : Type 0} (z : Sizes) (log : List Record) (old : Pooled P) (f : Anal
     taken_next n number = record { older = ds; first = first_is; nobody = nobody_is; number = number ∙ ap (λ m. number_of d.txn m + 1) are.numbers }
 
     -- it cannot be taken back
-    pub bad_due : (lsn : ℕ) → lsn ≡ d.lsn → CannotBeTaken z old.images log d → (start : Paged) → Repeats z log start (paged old) → IsBadStep z (IsAbortingFrom z log old) start log lsn
+    pub bad_due : (lsn : ℕ) → lsn ≡ d.lsn → CannotBeTaken z old.images log d → (start : Images) → Repeats z log start (paged old) → IsBadStep z (IsAbortingFrom z log old) start log lsn
     bad_due lsn place why start h = BadDue d ds old.images (paged old) first_is nobody_is place refl h why
 
     pub plan_stops : (e : Refusal) → PlanStops z old.images d e → AbortStops z (IsAbortingFrom z log old) log old shown e
@@ -277,7 +278,7 @@ module _ {P : Type 0} (z : Sizes) (log : List Record) (old : Pooled P) (d : Pend
     write_belongs x base k same i =
         let h = within_holds base old.images (rebased x log) d.txn n d.lsn (deed_due d) ws made k i.1 in
         subst (λ l. Belongs z l (page_op d.txn n w) (paged old)) i.0
-        (subst (λ y. Belongs y (marked (rebased x log)) (page_op d.txn n w) (paged old)) same (belongs_next base.sizes old.images (rebased x log) (page_op d.txn n w) h (whole x base k same i) old.changed refl))
+        (subst (λ y. Belongs y (marked (rebased x log)) (page_op d.txn n w) (paged old)) same (belongs_next base.sizes old.images (rebased x log) (page_op d.txn n w) h (whole x base k same i) refl))
 
     pub write_shown : (new : Pooled P) → IsPool z new.images → IsRecordRedone z log (page_op d.txn n w) (paged old) (paged new) → OfStore z within (IsShownWithin (page_op d.txn n w ∷ log) new d n ws (made + 1))
     write_shown new pool one x base k same i =
@@ -304,7 +305,7 @@ module _ {P : Type 0} (z : Sizes) (log : List Record) (old : Pooled P) (d : Pend
       let h = within_holds base old.images all d.txn n d.lsn (deed_due d) ws (length ws) k i.1 in
       let w = (between_holds base old.images (comp_end d.txn n d.lsn ∷ all) k (closed x base k i)).whole in
       subst (λ l. Belongs z l (comp_end d.txn n d.lsn) (paged old)) i.0
-      (subst (λ y. Belongs y (marked all) (comp_end d.txn n d.lsn) (paged old)) same (belongs_next base.sizes old.images all (comp_end d.txn n d.lsn) h w old.changed refl))
+      (subst (λ y. Belongs y (marked all) (comp_end d.txn n d.lsn) (paged old)) same (belongs_next base.sizes old.images all (comp_end d.txn n d.lsn) h w refl))
 
   pub close_shown : (new : Pooled P) → new ≡ old → OfStore z all_made (IsShown (comp_end d.txn n d.lsn ∷ log) new)
   close_shown new is x base k same i = (

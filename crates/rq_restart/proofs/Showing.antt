@@ -58,8 +58,8 @@ module _ (z : Sizes) (images : List (List ℕ)) (log : List Record) (r : Record)
     caught_up = λ le. subst (λ l. HoldsPage z p (image_in images p) l) (sym here) (λ n from to. sym (slot_holds z images p n from to) ∙ h.slots (address p n));
   }
 
-  pub belongs_next : (changed : List Bool) → is_base r ≡ false → Belongs z (marked log) r (record { image = image_in images; changed = changed })
-  belongs_next changed plain = record {
+  pub belongs_next : is_base r ≡ false → Belongs z (marked log) r (image_in images)
+  belongs_next plain = record {
     next = next_in (marked log) r plain (subst (λ (i : ℕ). IsNext i r) (sym (marked_incarnation log)) w.order.0);
     follows = whole_logs.one z log r w plain;
     may = subst (λ (n : ℕ). MayRedo z (image_in images) (n + 1) r) (sym (marked_length log w.based.1)) (may_redo z grown (image_in images) (length log) r w.legal w.in_store w.befores (omega arith) grows up_to);

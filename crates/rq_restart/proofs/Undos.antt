@@ -1,5 +1,6 @@
 -- Undoing operations that have no end, record by record.
 use Rattle.std.proofs.Common.{◌≡◌, ℕ, ◌+◌, ◌<◌, false, List, [], ◌∷◌, length, inl, inr, refl, sym, ◌∙◌, ap, subst, arith}
+use Rattle.rq_disk.specs.Device.{Images}
 use Rattle.rq_model.specs.declared.record.Record.{Record}
 use Rattle.rq_model.specs.declared.record.Record.TheVariants.{PageOp, PageUndo, OpEnd, OpVoid, CompEnd, Base}
 use Rattle.rq_model.specs.declared.refusal.Refusal.{Refusal}
@@ -31,7 +32,8 @@ use Rattle.rq_analysis.proofs.Stacks.{in_newest}
 use Rattle.rq_analysis.proofs.Undos.{undo_leaves_less, undoing_more}
 use Rattle.rq_restart.specs.Again.{IsLike, IsLikeUndo, NextNotUndoneFor}
 use Rattle.rq_restart.specs.Found.{MayComeNext}
-use Rattle.rq_restart.specs.Repeating.{ArePagesCounted, Belongs, IsRecordRedone, Marks, Paged, Repeats}
+use Rattle.rq_restart.specs.Repeating.{ArePagesCounted, Belongs, IsRecordRedone, Repeats}
+use Rattle.rq_restart.proofs.Marking.{marked_twice, same_marked}
 use Rattle.rq_restart.specs.Undoing.{HandsOverNothing, StepStops, UndoStops}
 use Rattle.rq_restart.proofs.Repeated.{before_from, counted_more}
 
@@ -106,7 +108,7 @@ module _ {L : Type 0} (g : Ghosts L) (only_now : (d : L) (c : List ℕ) → g.le
 
 -- nothing is handed over, one record after the other
 pub none_handed : {P L : Type 0} (g : Ghosts L) → ((d : L) (c : List ℕ) → g.left_since d (g.moment d) c → g.may_leave d c) → (pages : Pooled P) (log : Logged L) → log.failed ≡ false → HandsOverNothing g pages pages log log
-none_handed g only_now pages log running = record { sizes = refl; pages_device = refl; frames = refl; read = still g only_now log.device; forced = refl; running = running; settled = refl }
+none_handed g only_now pages log running = record { sizes = refl; pages_device = refl; frames = refl; marked = same_marked pages pages refl; read = still g only_now log.device; forced = refl; running = running; settled = refl }
 
 -- a record was read again
 pub one_read : {P L : Type 0} (g : Ghosts L) (pages : Pooled P) (log now : Logged L) → log.failed ≡ false → now ≡ record log { device = now.device } → IsRead g log.device now.device → HandsOverNothing g pages pages log now
@@ -114,6 +116,7 @@ one_read g pages log now running same read = record {
   sizes = refl;
   pages_device = refl;
   frames = refl;
+  marked = same_marked pages pages refl;
   read = read;
   forced = ap (λ (l : Logged _). l.forced) same;
   running = ap (λ (l : Logged _). l.failed) same ∙ running;
@@ -125,6 +128,7 @@ and_then {P} {L} {g} {a} {b} {c} {x} {y} {z} h k = record {
   sizes = k.sizes ∙ h.sizes;
   pages_device = k.pages_device ∙ h.pages_device;
   frames = k.frames ∙ h.frames;
+  marked = marked_twice a b c h.marked k.marked;
   read = read_twice g x.device y.device z.device h.read k.read;
   forced = k.forced ∙ h.forced;
   running = k.running;
@@ -133,23 +137,22 @@ and_then {P} {L} {g} {a} {b} {c} {x} {y} {z} h k = record {
 
 -- one record more is repeated, or doesn't belong
 module _ (z y : Sizes) (log : List Record) (r : Record) (sizes : y ≡ z) (count : ℕ) (all : count ≡ length log + 1) where
-  pub one_repeated : (old new : Paged) → MayComeNext log r → MayRedo y old.image count r → Redoes (told_by r) count old.image new.image → Marks (told_by r) count old new.changed → IsRecordRedone z log r old new
-  one_repeated old new next may redone marked = record {
-    belongs = record { next = next.next; follows = next.follows; may = subst (λ x. MayRedo x old.image (length log + 1) r) sizes (subst (λ n. MayRedo y old.image n r) all may) };
-    redone = subst (λ n. Redoes (told_by r) n old.image new.image) all redone;
-    marked = subst (λ n. Marks (told_by r) n old new.changed) all marked;
+  pub one_repeated : (old new : Images) → MayComeNext log r → MayRedo y old count r → Redoes (told_by r) count old new → IsRecordRedone z log r old new
+  one_repeated old new next may redone = record {
+    belongs = record { next = next.next; follows = next.follows; may = subst (λ x. MayRedo x old (length log + 1) r) sizes (subst (λ n. MayRedo y old n r) all may) };
+    redone = subst (λ n. Redoes (told_by r) n old new) all redone;
   }
 
-  pub belongs_then : (old : Paged) → Belongs z log r old → MayComeNext log r × MayRedo y old.image count r
+  pub belongs_then : (old : Images) → Belongs z log r old → MayComeNext log r × MayRedo y old count r
   belongs_then old b = (
     record { next = b.next; follows = b.follows },
-    subst (λ n. MayRedo y old.image n r) (sym all) (subst (λ x. MayRedo x old.image (length log + 1) r) (sym sizes) b.may),
+    subst (λ n. MayRedo y old n r) (sym all) (subst (λ x. MayRedo x old (length log + 1) r) (sym sizes) b.may),
   )
 
 -- what is kept between two such records: what was undone, on the pages too
-pub record IsGoingOn (z : Sizes) (log last : List Record) (first now : Paged) : Type 0 where
+pub record IsGoingOn (z : Sizes) (log last : List Record) (first now : Images) : Type 0 where
   pub undoing : IsUndoing log last
-  pub repeated : (start : Paged) → Repeats z log start first → Repeats z last start now
+  pub repeated : (start : Images) → Repeats z log start first → Repeats z last start now
   pub counted : ArePagesCounted z (length log) first → ArePagesCounted z (length last) now
 
 -- a record undoes what is next
@@ -157,15 +160,15 @@ one_next : (h : OpenWorkView) (next : NextUndo) → IsUndoneNext h next → (r :
 one_next h (Void o) there = (void_of o, there)
 one_next h (Write lsn) there = (undo_of there.0, Undoes there.0 there.2.older there.2.none there.2.first refl)
 
-module _ (z y : Sizes) (log last : List Record) (first now : Paged) (sizes : y ≡ z) (k : IsGoingOn z log last first now) where
-  pub going_more : (r : Record) (h : OpenWorkView) (grown : List Record) (after : Paged) → h ≡ open_work_of last → IsNextUndo h r → grown ≡ r ∷ last → IsRecordRedone y last r now after → IsGoingOn z log grown first after
+module _ (z y : Sizes) (log last : List Record) (first now : Images) (sizes : y ≡ z) (k : IsGoingOn z log last first now) where
+  pub going_more : (r : Record) (h : OpenWorkView) (grown : List Record) (after : Images) → h ≡ open_work_of last → IsNextUndo h r → grown ≡ r ∷ last → IsRecordRedone y last r now after → IsGoingOn z log grown first after
   going_more r h grown after is next more one = subst (λ l. IsGoingOn z log l first after) (sym more) (record {
     undoing = undoing_more log last r k.undoing (subst (λ j. IsNextUndo j r) is next);
     repeated = λ start before. (now, before_from (now ≡ start) r (undo_is_no_base h r next) (k.repeated start before), subst (λ x. IsRecordRedone x last r now after) sizes one);
     counted = λ before. subst (λ n. ArePagesCounted z n after) (let e : length last + 1 ≡ length (r ∷ last) = omega arith in e) (counted_more z last r now after (subst (λ x. IsRecordRedone x last r now after) sizes one) (k.counted before));
   })
 
-  pub going_stops : (r : Record) (h : OpenWorkView) (e : Refusal) → h ≡ open_work_of last → IsNextUndo h r → StepStops (length last) (Belongs y last r now) e → (start : Paged) → Repeats z log start first → UndoStops z log start e
+  pub going_stops : (r : Record) (h : OpenWorkView) (e : Refusal) → h ≡ open_work_of last → IsNextUndo h r → StepStops (length last) (Belongs y last r now) e → (start : Images) → Repeats z log start first → UndoStops z log start e
   going_stops r h why.NoMemory is next s start before = record { undone = last; undoing = k.undoing; newest = r; next = subst (λ j. IsNextUndo j r) is next }
   going_stops r h why.DiskRead is next s start before = tt
   going_stops r h why.LogFull is next s start before = record { undone = last; undoing = k.undoing; full = s }
@@ -182,7 +185,7 @@ module _ (z y : Sizes) (log last : List Record) (first now : Paged) (sizes : y �
   going_stops r h _ is next s start before = absurd s
 
   -- or what is next was not told
-  pub going_waits : {L : Type 0} (g : Ghosts L) (a b : L) (h : OpenWorkView) (next : NextUndo) (e : Refusal) → h ≡ open_work_of last → IsUndoneNext h next → NextNotUndoneFor g e next (length last) a b → g.honest b → (start : Paged) → UndoStops z log start e
+  pub going_waits : {L : Type 0} (g : Ghosts L) (a b : L) (h : OpenWorkView) (next : NextUndo) (e : Refusal) → h ≡ open_work_of last → IsUndoneNext h next → NextNotUndoneFor g e next (length last) a b → g.honest b → (start : Images) → UndoStops z log start e
   going_waits g a b h (Void sub) e is there s honest start = absurd s
   going_waits g a b h (Write lsn) why.NoMemory is there s honest start =
       let n = one_next h (Write lsn) there in

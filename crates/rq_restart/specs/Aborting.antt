@@ -1,5 +1,6 @@
 -- Undoing lost transactions, and where that stops.
 use Rattle.std.specs.Prelude.{◌≡◌, ◌⊎◌, ℕ, ◌+◌, ◌^◌, ◌≤◌, List, [], ◌∷◌, length, take, true, Some, None}
+use Rattle.rq_disk.specs.Device.{Images}
 use Rattle.rq_model.specs.declared.record.Deed.{Deed}
 use Rattle.rq_model.specs.declared.record.Record.{Record}
 use Rattle.rq_model.specs.declared.record.Record.TheVariants.{AbortEnd}
@@ -27,7 +28,7 @@ use Rattle.rq_analysis.specs.Numbers.{number_of, numbers}
 use Rattle.rq_analysis.specs.Walk.{IsBetween, IsWithin}
 use Rattle.rq_engine.specs.Earlier.{rebased}
 use Rattle.rq_restart.specs.Past.{IsPast}
-use Rattle.rq_restart.specs.Repeating.{ArePagesCounted, Belongs, Paged, Repeats, paged, slots_on}
+use Rattle.rq_restart.specs.Repeating.{ArePagesCounted, Belongs, Repeats, paged, slots_on}
 
 -- the log with the records of these writes of an operation behind, the first of them the oldest
 abbrev pub with_writes : Txn → ℕ → List SlotWrite → List Record → List Record
@@ -74,36 +75,36 @@ pub record AbortsBehind (log now : List Record) : Type 0 where
   pub are : after_rounds rounds log ≡ now
 
 -- the writes take back what is due, over some pages of which this is so
-pub record IsPlannedOn (z : Sizes) (on : Paged → Type 0) (due : PendingUndo) (ws : List SlotWrite) : Type 0 where
-  pub pages : Paged
+pub record IsPlannedOn (z : Sizes) (on : Images → Type 0) (due : PendingUndo) (ws : List SlotWrite) : Type 0 where
+  pub pages : Images
   pub on_pages : on pages
   pub plan : IsTakingBack z (slots_on z pages) (deed_by due.level due.deed) ws
 
 -- what is taken back in each round is planned over pages of which this is so, and of the log before the round
-abbrev pub ArePlanned : Sizes → (List Record → Paged → Type 0) → List Record → List Round → Type 0
+abbrev pub ArePlanned : Sizes → (List Record → Images → Type 0) → List Record → List Round → Type 0
 ArePlanned z on log [] = Unit {0}
 ArePlanned z on log (Ends t ∷ rs) = ArePlanned z on log rs
 ArePlanned z on log (TakesBack d n ws ∷ rs) = IsPlannedOn z (on (after_rounds rs log)) d ws × ArePlanned z on log rs
 
 -- the log with such rounds behind, each so planned
-pub record AbortsOn (z : Sizes) (on : List Record → Paged → Type 0) (log now : List Record) : Type 0 where
+pub record AbortsOn (z : Sizes) (on : List Record → Images → Type 0) (log now : List Record) : Type 0 where
   pub behind : AbortsBehind log now
   pub planned : ArePlanned z on log behind.rounds
 
 -- the same, and some writes of the next
-pub data IsAborting (z : Sizes) (on : List Record → Paged → Type 0) (log now : List Record) : Type 0 where
+pub data IsAborting (z : Sizes) (on : List Record → Images → Type 0) (log now : List Record) : Type 0 where
   Between : AbortsOn z on log now → IsAborting z on log now
   Within : (older : List Record) (d : PendingUndo) (n : ℕ) (ws : List SlotWrite) (made : ℕ) → AbortsOn z on log older
       → IsTakenNext older d n → IsPlannedOn z (on older) d ws → with_writes d.txn n (take made ws) older ≡ now
       → IsAborting z on log now
 
 -- the log was repeated from the first pages to these
-abbrev pub RepeatedFrom : Sizes → Paged → List Record → Paged → Type 0
+abbrev pub RepeatedFrom : Sizes → Images → List Record → Images → Type 0
 RepeatedFrom z first log pages = Repeats z log first pages
 
 -- and so it was wherever the log before was repeated to those
-abbrev pub RepeatedSince : Sizes → List Record → Paged → List Record → Paged → Type 0
-RepeatedSince z log old now pages = (first : Paged) → Repeats z log first old → Repeats z now first pages
+abbrev pub RepeatedSince : Sizes → List Record → Images → List Record → Images → Type 0
+RepeatedSince z log old now pages = (first : Images) → Repeats z log first old → Repeats z now first pages
 
 -- such rounds are planned over the pages as they are, and as the records behind leave them
 abbrev pub AbortsFrom : {P : Type 0} → Sizes → List Record → Pooled P → List Record → Type 0
@@ -142,7 +143,7 @@ pub data IsOnItsWay (base : State) (log : List Record) : Type 0 where
 pub record HasGoneOn {P : Type 0} (z : Sizes) (behind : Type 0) (log now : List Record) (old new : Pooled P)
     (before after : List Record → State → Type 0) : Type 0 where
   pub aborting : behind
-  pub repeated : (first : Paged) → Repeats z log first (paged old) → Repeats z now first (paged new)
+  pub repeated : (first : Images) → Repeats z log first (paged old) → Repeats z now first (paged new)
   pub counted : ArePagesCounted z (length log) (paged old) → ArePagesCounted z (length now) (paged new)
   pub shown : OfStore z before after
 
@@ -168,11 +169,11 @@ CannotBeTaken z images log due = IsNotUndone z images due ⊎ (2 ^ 64 ≤ number
 
 -- The next record that goes on so would stand here and doesn't belong there; or what is due first, told by the OpEnd with
 -- this LSN, is to be taken back next and cannot be.
-pub data IsBadStep (z : Sizes) (behind : List Record → Type 0) (first : Paged) (last : List Record) (lsn : ℕ) : Type 0 where
-  BadRecord : (newest : Record) (mid : Paged) → behind (newest ∷ last) → lsn ≡ length last + 1
+pub data IsBadStep (z : Sizes) (behind : List Record → Type 0) (first : Images) (last : List Record) (lsn : ℕ) : Type 0 where
+  BadRecord : (newest : Record) (mid : Images) → behind (newest ∷ last) → lsn ≡ length last + 1
       → Repeats z last first mid → (Belongs z last newest mid → ⊥) → IsBadStep z behind first last lsn
-  BadDue : (due : PendingUndo) (older : List PendingUndo) (images : List (List ℕ)) (mid : Paged) → dues last ≡ due ∷ older
-      → least_free (dues last) (open_work_of last).active ≡ None → lsn ≡ due.lsn → mid.image ≡ image_in images
+  BadDue : (due : PendingUndo) (older : List PendingUndo) (images : List (List ℕ)) (mid : Images) → dues last ≡ due ∷ older
+      → least_free (dues last) (open_work_of last).active ≡ None → lsn ≡ due.lsn → mid ≡ image_in images
       → Repeats z last first mid → CannotBeTaken z images last due → IsBadStep z behind first last lsn
 
 -- Damage is told of this record where the next such record doesn't belong there, or what the OpEnd with this LSN tells
@@ -181,7 +182,7 @@ pub record IsBadAbort {P : Type 0} (z : Sizes) (behind : List Record → Type 0)
     (before : List Record → State → Type 0) (lsn : ℕ) : Type 0 where
   pub last : List Record
   pub aborting : behind last
-  pub bad : (first : Paged) → Repeats z log first (paged old) → IsBadStep z behind first last lsn
+  pub bad : (first : Images) → Repeats z log first (paged old) → IsBadStep z behind first last lsn
   pub none : OfStore z before (λ e base. ⊥)
 
 -- why lost transactions were not undone

@@ -1,5 +1,5 @@
 -- A store that was opened lets go of frames.
-use Rattle.std.specs.Prelude.{◌≡◌, ℕ, ◌+◌, ◌%◌, ◌^◌, length, min, true}
+use Rattle.std.specs.Prelude.{◌≡◌, ℕ, ◌+◌, ◌%◌, ◌^◌, ◌≤◌, length, min, true}
 use Rattle.rq_model.specs.declared.refusal.Refusal.{Refusal}
 use Rattle.rq_model.specs.declared.refusal.Refusal.TheVariants as why
 use Rattle.rq_disk.specs.declared.device.LogDevice as log_device
@@ -23,11 +23,14 @@ module _ {P L : Type 0} (p : page_device.Ghosts P) (l : log_device.Ghosts L) whe
     pub out : WritesOut old new
     pub state : new.state ≡ old.state
     pub counted : p.faults new.pages ≡ p.faults old.pages
+    -- nothing happened where there were no more
+    pub enough : length old.frames ≤ count + 1 → new ≡ old
     pub stays : (q : ℕ) → IsFramed new.frames q → is_changed new.changed q ≡ is_changed old.changed q
     pub count_is : length new.frames ≡ min (length old.frames) (count + 1)
 
-  -- a page could not be written out, in which its device failed once more
-  pub record StopsOut (old new : OpenStore P L) (e : Refusal) : Type 0 where
+  -- a page could not be written out, in which its device failed once more: there were more frames than so many
+  pub record StopsOut (count : ℕ) (old new : OpenStore P L) (e : Refusal) : Type 0 where
+    pub more : length old.frames ≤ count + 1 → ⊥
     pub out : WritesOut old new
     pub state : new.state ≡ record old.state { failed = true }
     pub is : e ≡ why.DiskWrite

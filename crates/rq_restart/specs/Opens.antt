@@ -1,5 +1,5 @@
 -- What a restart answers: the store that it opened, or why it did not, and what it leaves of both devices.
-use Rattle.std.specs.Prelude.{◌≡◌, ◌⊎◌, ℕ, ◌+◌, ◌≤◌, List, [], drop, false, length, min}
+use Rattle.std.specs.Prelude.{◌≡◌, ◌⊎◌, ℕ, ◌+◌, ◌<◌, ◌≤◌, List, [], drop, false, length, min, true}
 use Rattle.rq_model.specs.declared.record.Record.{Record}
 use Rattle.rq_model.specs.declared.refusal.Refusal.{Refusal}
 use Rattle.rq_model.specs.Bases.{earlier}
@@ -13,7 +13,7 @@ use Rattle.rq_log.specs.Spelled.{spelled}
 use Rattle.rq_page.specs.Pages.{lsn_of}
 use Rattle.rq_page.specs.Sizes.{Sizes, page_count}
 use Rattle.rq_pool.specs.Fixing.{AreForcedTo}
-use Rattle.rq_pool.specs.Pooled.{image_at}
+use Rattle.rq_pool.specs.Pooled.{image_at, is_changed}
 use Rattle.rq_pool.specs.Reading.{IsSuperblock, OnlyRead}
 use Rattle.rq_store.specs.Fitting.{AllFit}
 use Rattle.rq_store.specs.State.{ledger_of}
@@ -25,8 +25,8 @@ use Rattle.rq_engine.specs.Devices.{EachPair, Path}
 use Rattle.rq_engine.specs.Earlier.{on, over, rebased}
 use Rattle.rq_engine.specs.Opened.{OpenStore, pooled}
 use Rattle.rq_restart.specs.declared.restart.Report.{Report}
-use Rattle.rq_restart.specs.Repeating.{AreAsRepeated, Paged, paged}
-use Rattle.rq_restart.specs.Restarting.{BeginsFrom, IsLeftOn, IsOpenedOver, IsReadAs, IsRefusedFor, NotWrittenOut, Reports, Stops, WasChecked}
+use Rattle.rq_restart.specs.Repeating.{paged}
+use Rattle.rq_restart.specs.Restarting.{BeginsFrom, IsLeftOn, IsOpenedOver, IsReadAs, IsRefusedFor, LeavesPages, NotWrittenOut, Reports, Stops, WasChecked}
 use Rattle.rq_restart.specs.Underway.{IsLeftOrGoesOn, OfStores}
 
 -- What was opened over the log that was read has its commits.
@@ -46,12 +46,16 @@ pub record Recovers {P L : Type 0} (p : page_device.Ghosts P) (pages : P) (older
       → ledger_of (on (earlier older) s.state) ≡ after (Restarted report.incarnation report.records) ledger
   pub fit : AreBased older → AllFit (p.may_be pages) s.state.sizes older → AreFit p (over (earlier older) s)
 
+-- where so many frames beside that of the superblock are enough for a store, an honest device of pages was only read
+abbrev pub ReadWhereEnough : {P : Type 0} → page_device.Ghosts P → P → P → ℕ → Type 0
+ReadWhereEnough p pages new_pages count = p.honest new_pages → (z : Sizes) → IsSuperblock z (p.seen pages 0)
+    → page_count z ≤ count + 1 → OnlyRead p pages new_pages
+
 module _ {P L : Type 0} (p : page_device.Ghosts P) (l : log_device.Ghosts L) (pages : P) (log : L) where
   -- the store that was opened on these devices, in so many frames beside that of the superblock, and what is reported of it
   pub record Opens (count : ℕ) (s : OpenStore P L) (report : Report) : Type 0 where
     pub sizes : p.honest s.pages → IsSuperblock s.state.sizes (p.seen pages 0)
-    pub checked : l.honest s.log → (last : Paged) × AreAsRepeated s.frames last (paged (pooled s))
-        × WasChecked p l pages log s.state.sizes last s.state.records s.pages s.log
+    pub checked : l.honest s.log → WasChecked p l pages log s.state.sizes (paged (pooled s)) s.state.records s.pages s.log
     pub over : (older : List Record) → IsReadAs l log s.log older → OpensOver older s report
     pub recovers : (older : List Record) → IsReadAs l log s.log older → IsLeftOn p s.state.sizes pages s.pages older
         → Recovers p pages older s report
@@ -61,15 +65,16 @@ module _ {P L : Type 0} (p : page_device.Ghosts P) (l : log_device.Ghosts L) (pa
     pub untried : s.replacing ≡ false
     pub unfailed : (p.faults s.pages ≡ p.faults pages) × (l.faults s.log ≡ l.faults log)
     pub frames : length s.frames ≡ min (page_count s.state.sizes) (count + 1)
+    -- a page that counts as changed is newer than it was read
+    pub marked : p.honest s.pages → (q : ℕ) → q < page_count s.state.sizes → is_changed s.changed q ≡ true
+        → lsn_of (p.seen pages q) < lsn_of (image_at s.state.images q)
     -- of a page a crash leaves what it might have left before, or its image, whose last record is one of them
-    pub pages_left : (q : ℕ) (c : List ℕ) → p.may_be s.pages q c → p.may_be pages q c
-        ⊎ ((c ≡ image_at s.state.images q) × (lsn_of c ≤ length s.state.records))
+    pub pages_left : LeavesPages p l pages log s.pages s.state.images (length s.state.records)
 
   -- The same with each page in a frame: it runs, nothing is under way, all its records are forced, and no page is ahead of them. The
   -- pages were only read.
   pub record OpensWhole (s : OpenStore P L) (report : Report) : Type 0 where
     pub opens : Opens (page_count s.state.sizes) s report
-    pub checked : l.honest s.log → WasChecked p l pages log s.state.sizes (paged (pooled s)) s.state.records s.pages s.log
     pub pages_read : OnlyRead p pages s.pages
     pub running : s.state.failed ≡ false
     pub idle : s.state.rows ≡ []

@@ -1,5 +1,6 @@
 -- Why a restart did not open a store, and where it stopped.
 use Rattle.std.specs.Prelude.{◌≡◌, false, ◌⊎◌, ℕ, ◌+◌, ◌%◌, ◌^◌, ◌≤◌, IsTrue, List, [], ◌∷◌, length}
+use Rattle.rq_disk.specs.Device.{Images}
 use Rattle.rq_model.specs.declared.record.Record.{Record}
 use Rattle.rq_model.specs.declared.refusal.Refusal.{Refusal}
 use Rattle.rq_model.specs.declared.refusal.Refusal.TheVariants as why
@@ -12,26 +13,26 @@ use Rattle.rq_log.specs.Reading.{BeginsWith, IsRead, StopsFor}
 use Rattle.rq_log.specs.Spelled.{AreSpelled}
 use Rattle.rq_analysis.specs.Growth.{grows}
 use Rattle.rq_analysis.specs.Numbers.{numbers}
-use Rattle.rq_restart.specs.Repeating.{Belongs, Paged, Repeats}
+use Rattle.rq_restart.specs.Repeating.{Belongs, Repeats}
 use Rattle.rq_restart.specs.Checked.{WasReadAndRedone, IsBeyond}
 use Rattle.rq_restart.specs.RolledBack.{HasNoRoom, IsAtBound, IsBadRollback, IsUnlinked}
 use Rattle.rq_restart.specs.Undoing.{IsBadUndo}
 
 -- a record behind these belongs there, and a table that is kept of the log may grow by it
-pub record MayGrow (z : Sizes) (front : List Record) (r : Record) (mid : Paged) : Type 0 where
+pub record MayGrow (z : Sizes) (front : List Record) (r : Record) (mid : Images) : Type 0 where
   pub belongs : Belongs z front r mid
   pub grows : IsTrue (grows r (numbers front))
 
 -- Why a record that was read behind these was not repeated, in its place: it doesn't belong there, or it does and memory is
 -- wanting.
-abbrev pub NotRepeated : Sizes → List Record → Record → Paged → Refusal → Type 0
+abbrev pub NotRepeated : Sizes → List Record → Record → Images → Refusal → Type 0
 NotRepeated z front r mid why.NoMemory = MayGrow z front r mid
 NotRepeated z front r mid (why.Damaged (damage.Record lsn)) = (lsn ≡ length front + 1) × (Belongs z front r mid → ⊥)
 NotRepeated z front r mid _ = ⊥
 
 module _ {L : Type 0} (g : Ghosts L) where
   -- the record that was read behind these, which is no Base, doesn't belong there
-  pub record IsBadNext (z : Sizes) (front : List Record) (mid : Paged) (e : Refusal) (old new : L) : Type 0 where
+  pub record IsBadNext (z : Sizes) (front : List Record) (mid : Images) (e : Refusal) (old new : L) : Type 0 where
     pub newest : Record
     pub is_record : IsRecord newest
     pub plain : is_base newest ≡ false
@@ -41,24 +42,24 @@ module _ {L : Type 0} (g : Ghosts L) where
     pub counted : g.faults new ≡ g.faults old
 
   -- the record that was read behind these belongs there, and memory is wanting for it
-  pub record LacksMemory (z : Sizes) (front : List Record) (mid : Paged) (old new : L) : Type 0 where
+  pub record LacksMemory (z : Sizes) (front : List Record) (mid : Images) (old new : L) : Type 0 where
     pub newest : Record
     pub is_record : IsRecord newest
     pub begins : g.honest new → BeginsWith (newest ∷ front) (g.seen old)
     pub grown : MayGrow z front newest mid
 
   -- memory is wanting: for the next record, or before the device was read at all
-  abbrev pub IsWanting : Sizes → List Record → Paged → Refusal → L → L → Type 0
+  abbrev pub IsWanting : Sizes → List Record → Images → Refusal → L → L → Type 0
   IsWanting z front mid e old new = (e ≡ why.NoMemory) × (g.faults new ≡ g.faults old)
       × (((front ≡ []) × (new ≡ old)) ⊎ LacksMemory z front mid old new)
 
   -- A log was gone through as it was read, as far as these records: each belonged where it stood and was repeated. Behind
   -- them no more could be read or kept, or no record stands there, or one that doesn't belong.
-  pub record IsStoppedBehind (z : Sizes) (first : Paged) (e : Refusal) (old new : L) : Type 0 where
+  pub record IsStoppedBehind (z : Sizes) (first : Images) (e : Refusal) (old new : L) : Type 0 where
     pub front : List Record
     pub are_spelled : AreSpelled front
     pub begins : g.honest new → BeginsWith front (g.seen old)
-    pub mid : Paged
+    pub mid : Images
     pub repeated : Repeats z front first mid
     pub why : StopsFor g e front old new ⊎ (IsWanting z front mid e old new ⊎ IsBadNext z front mid e old new)
     pub read : IsRead g old new
@@ -73,7 +74,7 @@ BeginsNot _ records last before now untouched = ⊥
 
 -- Why a store over this log, which was read and gone through, was not opened, and where; with the failures of the log's device before and after it, and
 -- that it was only read.
-abbrev pub WhyShut : Sizes → List Record → Paged → Refusal → ℕ → ℕ → Type 0 → Type 0
+abbrev pub WhyShut : Sizes → List Record → Images → Refusal → ℕ → ℕ → Type 0 → Type 0
 WhyShut z log first why.NoMemory before now untouched = (now ≡ before) × untouched
 WhyShut z log first why.DiskRead before now untouched = (now ≡ (before + 1) % 2 ^ 64) × WasReadAndRedone z log first × untouched
 WhyShut z log first why.LogFull before now untouched = HasNoRoom z first log

@@ -11,7 +11,7 @@ use Rattle.rq_level.specs.LevelState.{LevelState}
 use Rattle.rq_planner.specs.Answered.{KnowsCells}
 use Rattle.rq_model.specs.Incarnations.{incarnation_of}
 use Rattle.rq_model.specs.Unended.{unfinished, lost}
-use Rattle.rq_disk.specs.Device.{Images, Only}
+use Rattle.rq_disk.specs.Device.{Images, Leaves, Only}
 use Rattle.rq_disk.specs.declared.device.LogDevice as log_device
 use Rattle.rq_disk.specs.declared.device.PageDevice as page_device
 use Rattle.rq_pool.specs.Reading as pages_read
@@ -28,12 +28,12 @@ use Rattle.rq_store.specs.Fitting.{image_in}
 use Rattle.rq_analysis.specs.OpenWorkView.{open_work_of}
 use Rattle.rq_analysis.specs.Recovered.{IsRecovered}
 use Rattle.rq_restart.specs.RolledBack.{HasRepeated, IsAtBound, IsRolledBack, IsRolledBackOn}
-use Rattle.rq_restart.specs.Repeating.{Paged, Repeats, paged}
-use Rattle.rq_pool.specs.Pooled.{IsPool, Pooled}
+use Rattle.rq_restart.specs.Repeating.{AreMarked, Repeats, paged}
+use Rattle.rq_pool.specs.Pooled.{IsPool, Pooled, image_at}
 use Rattle.rq_views.specs.Stored.{count_used, slots_in}
 use Rattle.rq_restart.specs.declared.restart.Report.{Report}
-use Rattle.rq_restart.specs.Checked.{as_read}
 use Rattle.rq_model.specs.Bases.{IsMarked, gone, marked, standing}
+use Rattle.rq_engine.specs.Devices.{PagesLeave}
 use Rattle.rq_engine.specs.Earlier.{rebased}
 use Rattle.rq_restart.specs.Past.{IsPast, WhereLeft}
 use Rattle.rq_restart.specs.Refused.{IsStoppedBehind, WhyShut}
@@ -156,11 +156,11 @@ module _ {L : Type 0} (g : log_device.Ghosts L) where
 
   -- The device of a log that was gone through to these pages: a crash at any moment leaves what it might have left before,
   -- or the first of the records by which the next incarnation is begun.
-  pub record LeavesLog (z : Sizes) (pages : Paged) (old new : Logged L) : Type 0 where
+  pub record LeavesLog (z : Sizes) (pages : Images) (old new : Logged L) : Type 0 where
     pub honest : g.honest new.device → g.honest old.device
-    pub any_moment : (first : Paged) → Repeats z old.records first pages → g.honest new.device → AreSpelled old.records
+    pub any_moment : (first : Images) → Repeats z old.records first pages → g.honest new.device → AreSpelled old.records
         → EndsWith old.records (g.seen old.device) → LeavesOnly g old.device new.device
-        (WasLeftOrBegun z first.image old.device old.records)
+        (WasLeftOrBegun z first old.device old.records)
 
   -- whatever a crash at any moment leaves of the log beside these pages: what it might have left before, or what was read
   -- with the first of the records behind
@@ -170,14 +170,14 @@ module _ {L : Type 0} (g : log_device.Ghosts L) where
 
   -- Why a store with these pages was not opened over the log of an honest device: going through it as it was read stopped behind some of its
   -- records, or all of them were read and gone through, and then this.
-  abbrev pub StopsOver : Sizes → Paged → Refusal → L → L → Type 0
+  abbrev pub StopsOver : Sizes → Images → Refusal → L → L → Type 0
   StopsOver z first e old new =
       IsStoppedBehind g z first e old new
       ⊎ ((older : List Record) × AreSpelled older × (g.honest new → EndsWith older (g.seen old))
       × WhyShut z older first e (g.faults old) (g.faults new) (IsRead g old new))
 
   -- the same, and of any device whether it failed, and that it was only read unless it failed in a write
-  pub record LogStops (z : Sizes) (first : Paged) (e : Refusal) (old new : L) : Type 0 where
+  pub record LogStops (z : Sizes) (first : Images) (e : Refusal) (old new : L) : Type 0 where
     pub counted : FailsWith e (g.faults old) (g.faults new)
     pub read : (e ≢ why.DiskWrite) → IsRead g old new
     pub over : g.honest new → StopsOver z first e old new
@@ -199,6 +199,7 @@ module _ {L : Type 0} (g : log_device.Ghosts L) where
     pub sizes : now.sizes ≡ first.sizes
     pub device : now.device ≡ first.device
     pub frames : now.frames ≡ first.frames
+    pub marked : AreMarked first now
     pub pool : IsPool now.sizes now.images
     pub cells_used : cells ≡ count_used now.sizes (slots_in now.sizes now.images)
     pub read : Logged L
@@ -235,7 +236,7 @@ module _ {P L : Type 0} (p : page_device.Ghosts P) (l : log_device.Ghosts L) (pa
 
   -- what was checked where it was not: every page as it was read, the log, each record of it and each before-image, and
   -- the pages that history was repeated on, with the records that undo
-  pub record WasChecked (z : Sizes) (last : Paged) (records : List Record) (new_pages : P) (new_log : L) : Type 0 where
+  pub record WasChecked (z : Sizes) (last : Images) (records : List Record) (new_pages : P) (new_log : L) : Type 0 where
     pub images : List (List ℕ)
     pub sound : ArePages z images
     pub seen : p.honest new_pages → AreSeen (p.seen pages) images (page_count z)
@@ -244,19 +245,30 @@ module _ {P L : Type 0} (p : page_device.Ghosts P) (l : log_device.Ghosts L) (pa
     pub are_spelled : AreSpelled older
     pub reads : l.honest new_log → EndsWith older (l.seen log)
     pub rolled_back : List Record
-    pub rolled_back_on : IsRolledBackOn z older rolled_back (as_read z images) last
+    pub rolled_back_on : IsRolledBackOn z older rolled_back (image_in images) last
     pub begun : records ≡ next_restart rolled_back ∷ rolled_back
     pub room : length rolled_back < 2 ^ 50
 
+  -- of a page: what a crash might have left before, or its image, whose last record is one of so many
+  abbrev pub WasLeftOrWritten : List (List ℕ) → ℕ → ℕ → List ℕ → Type 0
+  WasLeftOrWritten images count page c = p.may_be pages page c ⊎ ((c ≡ image_at images page) × (lsn_of c ≤ count))
+
+  -- a crash leaves such images, now and at any moment
+  pub record LeavesPages (new_pages : P) (images : List (List ℕ)) (count : ℕ) : Type 0 where
+    pub now : (page : ℕ) (c : List ℕ) → p.may_be new_pages page c → WasLeftOrWritten images count page c
+    pub moments : PagesLeave p pages new_pages (Leaves (WasLeftOrWritten images count))
+
   -- A page could not be written out: its device failed once more in that, and the device of the log did not. All was checked, and
-  -- the next incarnation begun: the log reads as its records, and a crash leaves them.
+  -- the next incarnation begun: the log reads as its records, and a crash leaves them. Some pages may have been written.
   pub record NotWrittenOut (e : Refusal) (new_pages : P) (new_log : L) : Type 0 where
     pub is : e ≡ why.DiskWrite
     pub failed : p.faults new_pages ≡ (p.faults pages + 1) % 2 ^ 64
     pub unfailed : l.faults new_log ≡ l.faults log
     pub sizes : Sizes
     pub records : List Record
-    pub checked : l.honest new_log → (last : Paged) × WasChecked sizes last records new_pages new_log
+    pub images : List (List ℕ)
+    pub checked : l.honest new_log → WasChecked sizes (image_in images) records new_pages new_log
+    pub pages_left : LeavesPages new_pages images (length records)
     pub reads : l.honest new_log → l.seen new_log ≡ spelled records
     pub durable : l.honest new_log → Only (spelled records) (l.may_leave new_log)
 
@@ -267,5 +279,5 @@ module _ {P L : Type 0} (p : page_device.Ghosts P) (l : log_device.Ghosts L) (pa
       (pages_read.StopsFor p e pages new_pages × (new_log ≡ log))
       ⊎ (((z : Sizes) × (images : List (List ℕ)) × ArePages z images
       × (p.honest new_pages → AreSeen (p.seen pages) images (page_count z)) × (p.faults new_pages ≡ p.faults pages)
-      × LogStops l z (as_read z images) e log new_log)
+      × LogStops l z (image_in images) e log new_log)
       ⊎ NotWrittenOut e new_pages new_log)

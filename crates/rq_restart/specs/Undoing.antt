@@ -1,5 +1,6 @@
 -- Undoing operations that have no end, and where that stops.
 use Rattle.std.specs.Prelude.{◌≡◌, ℕ, ◌+◌, ◌%◌, ◌^◌, ◌≤◌, false, List, length}
+use Rattle.rq_disk.specs.Device.{Images}
 use Rattle.rq_model.specs.declared.record.Record.{Record}
 use Rattle.rq_model.specs.declared.refusal.Refusal.{Refusal}
 use Rattle.rq_model.specs.declared.refusal.Refusal.TheVariants as why
@@ -11,7 +12,7 @@ use Rattle.rq_log.specs.Logged.{Logged}
 use Rattle.rq_log.specs.Reading.{IsRead}
 use Rattle.rq_analysis.specs.OpenWorkView.{open_work_of}
 use Rattle.rq_analysis.specs.Pages.{IsNextUndo, IsUndoing}
-use Rattle.rq_restart.specs.Repeating.{Paged, Belongs, Repeats}
+use Rattle.rq_restart.specs.Repeating.{AreMarked, Belongs, Repeats}
 
 -- Records were made behind the log, on the pages too, and nothing was handed over: the pages have the device that they had,
 -- and stand in the frames that they stood in. That of the log was only read, and the log has not failed.
@@ -19,6 +20,7 @@ pub record HandsOverNothing {P L : Type 0} (g : Ghosts L) (old new : Pooled P) (
   pub sizes : new.sizes ≡ old.sizes
   pub pages_device : new.device ≡ old.device
   pub frames : new.frames ≡ old.frames
+  pub marked : AreMarked old new
   pub read : IsRead g log.device now.device
   pub forced : now.forced ≡ log.forced
   pub running : now.failed ≡ false
@@ -31,13 +33,13 @@ pub record IsFullUndo (log : List Record) : Type 0 where
   pub full : 2 ^ 50 ≤ length undone
 
 -- the record that would undo the next of it, which would have this LSN, doesn't belong there
-pub record IsBadUndo (z : Sizes) (log : List Record) (first : Paged) (lsn : ℕ) : Type 0 where
+pub record IsBadUndo (z : Sizes) (log : List Record) (first : Images) (lsn : ℕ) : Type 0 where
   pub undone : List Record
   pub undoing : IsUndoing log undone
   pub newest : Record
   pub next : IsNextUndo (open_work_of undone) newest
   pub place : lsn ≡ length undone + 1
-  pub mid : Paged
+  pub mid : Images
   pub repeated : Repeats z undone first mid
   pub bad : Belongs z undone newest mid → ⊥
 
@@ -49,7 +51,7 @@ pub record HasUndoLeft (log : List Record) : Type 0 where
   pub next : IsNextUndo (open_work_of undone) newest
 
 -- why the operations of a log that have no end were not undone, once history was repeated
-abbrev pub UndoStops : Sizes → List Record → Paged → Refusal → Type 0
+abbrev pub UndoStops : Sizes → List Record → Images → Refusal → Type 0
 UndoStops z log first why.NoMemory = HasUndoLeft log
 UndoStops z log first why.DiskRead = Unit {0}
 UndoStops z log first why.LogFull = IsFullUndo log

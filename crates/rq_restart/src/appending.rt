@@ -10,7 +10,7 @@ ghost use Rattle.rq_store.specs.Opening.{MayRedo, Redoes};
 ghost use Rattle.rq_analysis.specs.LogTables.{PutsBack};
 ghost use Rattle.rq_analysis.specs.Rules.{CanBeRead, FollowAll};
 ghost use Rattle.rq_restart.specs.Found.{IsAnalysisOf};
-ghost use Rattle.rq_restart.specs.Repeating.{ArePagesCounted, Belongs, IsRecordRedone, Marks, paged};
+ghost use Rattle.rq_restart.specs.Repeating.{AreMarked, ArePagesCounted, Belongs, IsRecordRedone, paged};
 ghost use Rattle.rq_restart.specs.Undoing.{FailsWith, HandsOverNothing, StepStops};
 
 use crate::analysis::Analysis;
@@ -87,6 +87,7 @@ pub(crate) fn append<P: PageDevice + Drop, L: LogDevice + Drop, B: Level>(
 }
 
 // Makes what a record writes, where its page is older. False where the record doesn't fit the store.
+#[tactic(auto, using(crate::proofs::Marking::same_marked))]
 fn make<P: PageDevice + Drop, B: Level>(
     pages: &mut Pages<P>,
     planner: &mut Planner<B>,
@@ -96,7 +97,7 @@ fn make<P: PageDevice + Drop, B: Level>(
     requires framed { AreAllFramed pages.old }
     ensures redone { IsTrue result → Redoes (told_by undo.now) lsn (image_in pages.old.images)
         (image_in pages.new.images) }
-    ensures marked { IsTrue result → Marks (told_by undo.now) lsn (paged pages.old) pages.new.changed }
+    ensures marked { AreMarked pages.old pages.new }
     ensures same { told_by undo.now ≡ None → pages.new ≡ pages.old }
     ensures checked { IsTrue result → MayRedo pages.old.sizes (image_in pages.old.images) lsn undo.now }
     ensures refused { result ≡ false → MayRedo pages.old.sizes (image_in pages.old.images) lsn undo.now → ⊥ }
@@ -113,7 +114,7 @@ fn make<P: PageDevice + Drop, B: Level>(
 }
 
 // Has the level of single slots make what a record writes, where its page is older.
-#[tactic(auto, using(crate::proofs::Framing::slot_framed))]
+#[tactic(auto, using(crate::proofs::Framing::slot_framed, crate::proofs::Marking::same_marked, crate::proofs::Marking::applied_marked))]
 fn make_write<P: PageDevice + Drop, B: Level>(
     pages: &mut Pages<P>,
     planner: &mut Planner<B>,
@@ -123,7 +124,7 @@ fn make_write<P: PageDevice + Drop, B: Level>(
     requires framed { AreAllFramed pages.old }
     requires write { MayRedo pages.old.sizes (image_in pages.old.images) lsn undo.now }
     ensures redone { Redoes (told_by undo.now) lsn (image_in pages.old.images) (image_in pages.new.images) }
-    ensures marked { Marks (told_by undo.now) lsn (paged pages.old) pages.new.changed }
+    ensures marked { AreMarked pages.old pages.new }
     ensures same { told_by undo.now ≡ None → pages.new ≡ pages.old }
     ensures planner { planner.new ≡ planner.old }
     ensures sizes { pages.new.sizes ≡ pages.old.sizes }

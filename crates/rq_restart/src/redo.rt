@@ -1,5 +1,6 @@
 //! Going through a log: each slot write that is not on its page yet is made there.
 ghost use Rattle.std.specs.Prelude.{◌≡◌, ◌↔◌, ◌≤◌, ◌<◌, ◌+◌, ◌^◌, ◌∷◌, [], List, IsTrue, None, false, IfOk, IfErr, OnOk, length};
+ghost use Rattle.rq_disk.specs.Device.{Images};
 ghost use Rattle.rq_model.specs.declared.record.Record.{Record as AnyRecord};
 ghost use Rattle.rq_model.specs.Bases.{is_base};
 ghost use Rattle.rq_log.specs.Reading.{EndsShort, IsRead};
@@ -13,7 +14,7 @@ ghost use Rattle.rq_analysis.specs.LogTables.{PutsBack};
 ghost use Rattle.rq_analysis.specs.Rules.{CanBeRead, FollowAll};
 ghost use Rattle.rq_restart.specs.Found.{IsAnalysisOf};
 ghost use Rattle.rq_restart.specs.Numbers.{AreNumbersOf, NamesFirst};
-ghost use Rattle.rq_restart.specs.Repeating.{ArePagesCounted, IsRecordRedone, Marks, Paged, Repeats, paged};
+ghost use Rattle.rq_restart.specs.Repeating.{AreMarked, ArePagesCounted, IsRecordRedone, Repeats, paged};
 ghost use Rattle.rq_restart.specs.Refused.{IsStoppedBehind, NotRepeated};
 ghost use Rattle.rq_restart.specs.Undoing.{FailsWith, NamesNoDevice};
 
@@ -36,9 +37,9 @@ use std::alloc::Global;
 /// That no number of the pages as they were read is beyond so many records; else it is refused with the first page of which
 /// one is.
 pub(crate) fn check_page_numbers(numbers: &PageNumbers, records: u64) -> Result<(), Refusal>
-    ensures counted { OnOk result ((z : Sizes) (first : Paged) → AreNumbersOf z first numbers.now.numbers.items
+    ensures counted { OnOk result ((z : Sizes) (first : Images) → AreNumbersOf z first numbers.now.numbers.items
         → ArePagesCounted z records first) }
-    ensures names { IfErr result (λ e. (z : Sizes) (first : Paged) → AreNumbersOf z first numbers.now.numbers.items
+    ensures names { IfErr result (λ e. (z : Sizes) (first : Images) → AreNumbersOf z first numbers.now.numbers.items
         → NamesFirst z records first e) }
 {
     match numbers.first_beyond(records) {
@@ -75,6 +76,7 @@ pub(crate) fn repeat_history<P: PageDevice + Drop, L: LogDevice, B: Level>(
     ensures fails { IfErr result (λ e. FailsWith e (L.faults reader.new.first) (L.faults reader.new.device)) }
     ensures read { IsRead L.LogDevice reader.new.first reader.new.device }
     ensures first { reader.new.first ≡ reader.old.first }
+    ensures marked { AreMarked pages.old pages.new }
     ensures sizes { pages.new.sizes ≡ pages.old.sizes }
     ensures device { pages.new.device ≡ pages.old.device }
     ensures frames { pages.new.frames ≡ pages.old.frames }
@@ -118,6 +120,7 @@ fn stands_for_others(record: &Record) -> bool
 }
 
 // Checks the next record, which has this LSN and is no Base, and makes what it writes where its page is older.
+#[tactic(auto, using(crate::proofs::Marking::same_marked))]
 fn check_and_redo<P: PageDevice + Drop, B: Level>(
     pages: &mut Pages<P>,
     analysis: &mut Analysis,
@@ -140,6 +143,7 @@ fn check_and_redo<P: PageDevice + Drop, B: Level>(
         → IsAnalysisOf analysis.old older → FollowAll older → (IsTrue puts_back ↔ PutsBack analysis.old.open_work «record».now)
         → NotRepeated pages.old.sizes older «record».now (paged pages.old) e) }
     ensures err { IfErr result (λ e. NamesNoDevice e) }
+    ensures marked { AreMarked pages.old pages.new }
     ensures sizes { pages.new.sizes ≡ pages.old.sizes }
     ensures device { pages.new.device ≡ pages.old.device }
     ensures frames { pages.new.frames ≡ pages.old.frames }
@@ -194,7 +198,7 @@ pub(crate) fn may_redo<P: PageDevice + Drop>(pages: &Pages<P>, lsn: Lsn, record:
 }
 
 // Has the level of single slots make what a record writes, where its page is older.
-#[tactic(auto, using(crate::proofs::Framing::slot_framed))]
+#[tactic(auto, using(crate::proofs::Framing::slot_framed, crate::proofs::Marking::same_marked, crate::proofs::Marking::applied_marked))]
 fn apply<P: PageDevice + Drop, B: Level>(
     pages: &mut Pages<P>,
     levels: &mut StoreLevels<B>,
@@ -204,7 +208,7 @@ fn apply<P: PageDevice + Drop, B: Level>(
     requires framed { AreAllFramed pages.old }
     requires write { MayRedo pages.old.sizes (image_in pages.old.images) lsn «record».now }
     ensures redone { Redoes (told_by «record».now) lsn (image_in pages.old.images) (image_in pages.new.images) }
-    ensures marked { Marks (told_by «record».now) lsn (paged pages.old) pages.new.changed }
+    ensures marked { AreMarked pages.old pages.new }
     ensures sizes { pages.new.sizes ≡ pages.old.sizes }
     ensures device { pages.new.device ≡ pages.old.device }
     ensures frames { pages.new.frames ≡ pages.old.frames }

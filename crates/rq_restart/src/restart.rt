@@ -1,5 +1,6 @@
 //! Opening a store that a crash, or nothing at all, left behind.
 ghost use Rattle.std.specs.Prelude.{◌≡◌, ◌≢◌, [], ◌+◌, ◌<◌, ◌≤◌, ◌∷◌, IfOk, IfErr, OnOk, false, length};
+ghost use Rattle.rq_disk.specs.Device.{Images};
 ghost use Rattle.rq_model.specs.declared.record.Record.TheVariants as records;
 ghost use Rattle.rq_model.specs.declared.record.Record.{Record};
 ghost use Rattle.rq_views.specs.Stored.{slots_in};
@@ -8,12 +9,13 @@ ghost use Rattle.rq_log.specs.Reading.{IsRead};
 ghost use Rattle.rq_pool.specs.Fetching.{AreAllFramed};
 ghost use Rattle.rq_pool.specs.Fixing.{AreForcedTo};
 ghost use Rattle.rq_pool.specs.Pooled.{IsPool};
+ghost use Rattle.rq_pool.specs.Reading.{OnlyRead};
 ghost use Rattle.rq_planner.specs.Answered.{KnowsCells};
 ghost use Rattle.rq_engine.specs.Opened.{OpenStore, pooled};
 ghost use Rattle.rq_analysis.specs.Rules.{FollowAll};
 ghost use Rattle.rq_chain_check.specs.Links.{AreLinked};
-ghost use Rattle.rq_restart.specs.Repeating.{ArePagesCounted, Paged, Repeats, paged, slots_on};
-ghost use Rattle.rq_restart.specs.Opens.{KeepsStores, Opens, OpensWhole, Refuses};
+ghost use Rattle.rq_restart.specs.Repeating.{AreMarked, ArePagesCounted, Repeats, paged, slots_on};
+ghost use Rattle.rq_restart.specs.Opens.{KeepsStores, Opens, OpensWhole, ReadWhereEnough, Refuses};
 ghost use Rattle.rq_restart.specs.Restarting.{IsLogRead, OpensLog, RefusesLog, IsReady, IsRestarted, LeavesLog, WasLeftOrForced};
 ghost use Rattle.rq_restart.specs.Fewer.{KeepsFrames, StopsOut};
 ghost use Rattle.rq_restart.specs.Refused.{BeginsNot, IsStoppedBehind, WhyShut};
@@ -99,6 +101,7 @@ pub fn restart<P: PageDevice + Drop, L: LogDevice + Drop, B: Level>(
     ensures refused { IfErr result (λ stopped. Refuses P.PageDevice L.LogDevice pages log stopped.refusal stopped.pages
         stopped.log) }
     ensures left { KeepsStores P.PageDevice L.LogDevice pages log (pages_left result) (log_left result) }
+    ensures enough { ReadWhereEnough P.PageDevice pages (pages_left result) frames.count }
 {
     match restart_whole(alloc, pages, log, levels) {
         Ok((engine, report)) => keep_frames(engine, report, frames),
@@ -118,7 +121,7 @@ fn keep_frames<P: PageDevice + Drop, L: LogDevice + Drop, B: Level>(
     requires forced { AreForcedTo (pooled engine) engine.state.forced }
     ensures kept { IfOk result (λ o. KeepsFrames P.PageDevice L.LogDevice frames.count engine o.0 × (o.1 ≡ report)) }
     ensures stopped { IfErr result (λ stopped. (store : OpenStore P L) × (store.pages ≡ stopped.pages)
-        × (store.log ≡ stopped.log) × StopsOut P.PageDevice L.LogDevice engine store stopped.refusal) }
+        × (store.log ≡ stopped.log) × StopsOut P.PageDevice L.LogDevice frames.count engine store stopped.refusal) }
 {
     match engine.shrink(frames) {
         Ok(()) => Ok((engine, report)),
@@ -144,6 +147,7 @@ fn restart_whole<P: PageDevice + Drop, L: LogDevice + Drop, B: Level>(
     ensures refused { IfErr result (λ stopped. Refuses P.PageDevice L.LogDevice pages log stopped.refusal stopped.pages
         stopped.log) }
     ensures left { KeepsStores P.PageDevice L.LogDevice pages log (pages_left result) (log_left result) }
+    ensures read { IfErr result (λ stopped. OnlyRead P.PageDevice pages stopped.pages) }
 {
     match Pages::load(alloc, pages) {
         Ok(pages) => match restart_log(alloc, pages, log, levels) {
@@ -244,6 +248,7 @@ fn read_and_redo<P: PageDevice + Drop, L: LogDevice + Drop, B: Level>(
         (paged pages.old) stopped.refusal log stopped.device) }
     ensures fails { IfErr result (λ stopped. FailsWith stopped.refusal (L.faults log) (L.faults stopped.device)
         × IsRead L.LogDevice log stopped.device) }
+    ensures marked { AreMarked pages.old pages.new }
     ensures sizes { pages.new.sizes ≡ pages.old.sizes }
     ensures device { pages.new.device ≡ pages.old.device }
     ensures frames { pages.new.frames ≡ pages.old.frames }
@@ -283,7 +288,7 @@ fn finish_restart<P: PageDevice + Drop, L: LogDevice + Drop, B: Level>(
     requires framed { AreAllFramed pages.old }
     requires found { IsAnalysisOf analysis.old log.old.records }
     requires running { log.old.failed ≡ false }
-    requires pages { (first : Paged) × (L.honest log.old.device → Repeats pages.old.sizes log.old.records first (paged pages.old))
+    requires pages { (first : Images) × (L.honest log.old.device → Repeats pages.old.sizes log.old.records first (paged pages.old))
         × AreNumbersOf pages.old.sizes first numbers.now.numbers.items
         × (ArePagesCounted pages.old.sizes (length log.old.records) first
         → ArePagesCounted pages.old.sizes (length log.old.records) (paged pages.old)) }
@@ -292,16 +297,17 @@ fn finish_restart<P: PageDevice + Drop, L: LogDevice + Drop, B: Level>(
         begun.0.waiting begun.0.sent begun.0.planner begun.1) }
     ensures left { LeavesLog L.LogDevice pages.old.sizes (paged pages.old) log.old log.new }
     // What stays of the pages.
+    ensures marked { AreMarked pages.old pages.new }
     ensures sizes { pages.new.sizes ≡ pages.old.sizes }
     ensures pool { OnOk result (IsPool pages.new.sizes pages.new.images) }
     ensures pages { pages.new.device ≡ pages.old.device }
     ensures frames { pages.new.frames ≡ pages.old.frames }
     // What was checked, or why it was refused.
-    ensures checked { OnOk result (L.honest log.new.device → (first : Paged)
+    ensures checked { OnOk result (L.honest log.new.device → (first : Images)
         → Repeats pages.old.sizes log.old.records first (paged pages.old)
         → AreNumbersOf pages.old.sizes first numbers.now.numbers.items
         → HasRepeated pages.old.sizes log.old.records log.new.records first (paged pages.new)) }
-    ensures shut { IfErr result (λ e. L.honest log.new.device → (first : Paged)
+    ensures shut { IfErr result (λ e. L.honest log.new.device → (first : Images)
         → Repeats pages.old.sizes log.old.records first (paged pages.old)
         → AreNumbersOf pages.old.sizes first numbers.now.numbers.items
         → WhyShut pages.old.sizes log.old.records first e (L.faults log.old.device) (L.faults log.new.device)
@@ -365,7 +371,7 @@ fn undo_all<P: PageDevice + Drop, L: LogDevice + Drop, B: Level>(
     ensures lost { IfOk result (λ rolled_back. rolled_back.0 ≡ length analysis.old.open_work.active) }
     ensures known { IfOk result (λ rolled_back. KnowsCells pages.new.sizes pages.new.images rolled_back.1) }
     ensures found { OnOk result (IsAnalysisOf analysis.new log.new.records) }
-    ensures stops { IfErr result (λ e. L.honest log.new.device → (first : Paged)
+    ensures stops { IfErr result (λ e. L.honest log.new.device → (first : Images)
         → Repeats pages.old.sizes log.old.records first (paged pages.old)
         → RollbackStops pages.old.sizes log.old.records first e) }
     ensures fails { IfErr result (λ e. FailsWith e (L.faults log.old.device) (L.faults log.new.device)) }

@@ -1,11 +1,12 @@
 //! Undoing operations that have no end, slot by slot.
 ghost use Rattle.std.specs.Prelude.{◌≡◌, IfErr, OnOk, false, length};
+ghost use Rattle.rq_disk.specs.Device.{Images};
 ghost use Rattle.rq_pool.specs.Fetching.{AreAllFramed};
 ghost use Rattle.rq_pool.specs.Pooled.{IsPool};
 ghost use Rattle.rq_analysis.specs.Pages.{IsUndone};
 ghost use Rattle.rq_analysis.specs.Rules.{FollowAll};
 ghost use Rattle.rq_restart.specs.Found.{IsAnalysisOf};
-ghost use Rattle.rq_restart.specs.Repeating.{ArePagesCounted, Paged, Repeats, paged};
+ghost use Rattle.rq_restart.specs.Repeating.{ArePagesCounted, Repeats, paged};
 ghost use Rattle.rq_restart.specs.Undoing.{FailsWith, HandsOverNothing, UndoStops};
 
 use crate::again::undo_record;
@@ -39,13 +40,13 @@ pub(crate) fn undo_unfinished<P: PageDevice + Drop, L: LogDevice + Drop, B: Leve
     ensures undone { OnOk result (L.honest log.new.device → IsUndone log.old.records log.new.records) }
     ensures found { OnOk result (IsAnalysisOf analysis.new log.new.records) }
     ensures follow { OnOk result (L.honest log.new.device → FollowAll log.new.records) }
-    ensures repeated { OnOk result (L.honest log.new.device → (first : Paged)
+    ensures repeated { OnOk result (L.honest log.new.device → (first : Images)
         → Repeats pages.old.sizes log.old.records first (paged pages.old)
         → Repeats pages.old.sizes log.new.records first (paged pages.new)) }
     ensures counted { OnOk result (ArePagesCounted pages.old.sizes (length log.old.records) (paged pages.old)
         → ArePagesCounted pages.old.sizes (length log.new.records) (paged pages.new)) }
     ensures pool { OnOk result (IsPool pages.new.sizes pages.new.images) }
-    ensures stops { IfErr result (λ e. L.honest log.new.device → (first : Paged)
+    ensures stops { IfErr result (λ e. L.honest log.new.device → (first : Images)
         → Repeats pages.old.sizes log.old.records first (paged pages.old)
         → UndoStops pages.old.sizes log.old.records first e) }
     ensures fails { IfErr result (λ e. FailsWith e (L.faults log.old.device) (L.faults log.new.device)) }

@@ -1,4 +1,4 @@
-use Rattle.std.proofs.Common.{◌≡◌, ℕ, ◌∷◌, ◌+◌, ◌<◌, ◌≤◌, inr, ◌^◌, rules, length, take, inl, refl, ◌∙◌, sym, ap, subst, arith}
+use Rattle.std.proofs.Common.{◌≡◌, ℕ, ◌∷◌, ◌+◌, ◌<◌, ◌≤◌, inr, ◌^◌, rules, Err, IfErr, length, take, inl, refl, ◌∙◌, sym, ap, subst, arith}
 use Rattle.std.proofs.lemmas.Bool.{cases_lt}
 use Rattle.rq_model.specs.declared.record.Record.{Record}
 use Rattle.rq_model.specs.Deeds.{deed_by}
@@ -123,7 +123,8 @@ returns-in_err-append-clause-stops g c =
     let here : AbortStops z (IsAbortingFrom z log old) mid pages all refusal = one_stops z (IsAbortingFrom z log old) mid r pages all (making_aborts z (RepeatedSince z log (paged old)) log mid d n ws next planned (record { made = length ws; are = gone_on.aborting })) (Between (closing_aborts z (RepeatedSince z log (paged old)) log mid d n ws next planned (all_made d.txn n ws log mid gone_on.aborting))) refusal step (within_way z mid pages d n ws (length ws)) (close_belongs z mid pages d n ws) in
     let then : AbortStops z (IsAbortingFrom z log old) log old (IsShownWithin log old d n ws 0) refusal = stops_join z (with_writes d.txn n (take (length ws) ws) log ≡ mid) log mid old pages (IsShownWithin log old d n ws 0) all gone_on (IsAbortingFrom z log old) (IsAbortingFrom z log old) (λ m l k. k) refusal here in
     stops_before z (IsAbortingFrom z log old) (IsAbortingFrom z log old) log old (IsShown log old) (IsShownWithin log old d n ws 0) refusal (λ l k. k) begun then in
-    search (rules, h)
+    let is : c.from_residual-in_err-append.result ≡ Err refusal = search rules in
+    subst (λ r. IfErr r (λ x. g.L.LogDevice.honest c.append.new.log.device → AbortingStops z log old x)) (sym is) h
 
 pub returns-clause-gone_on : goal.returns-clause-gone_on
 returns-clause-gone_on g c = λ k.

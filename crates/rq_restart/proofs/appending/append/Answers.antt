@@ -26,7 +26,7 @@ returns-clause-repeated g c = λ h.
     let log = c.args.log.now.records in
     let honest : g.L.LogDevice.honest c.args.log.now.device = search (rules, h) in
     one_repeated z z log c.args.undo.now refl (c.last-lsn.result + 1) (ap (λ n. n + 1) c.last-lsn.ensures) (paged c.args.pages.now) (paged c.make.new.pages)
-    ((c.may_take.ensures.next log c.requires.found (c.requires.follow honest) c.requires.plain (λ y. c.requires.readable, λ q. refl) (λ y. c.requires.puts_back honest, λ q. refl)).0 c.if-not-may_take.false) (c.if-not-make.ensures.checked refl) (c.if-not-make.ensures.redone refl) (c.if-not-make.ensures.marked refl)
+    ((c.may_take.ensures.next log c.requires.found (c.requires.follow honest) c.requires.plain (λ y. c.requires.readable, λ q. refl) (λ y. c.requires.puts_back honest, λ q. refl)).0 c.if-not-may_take.false) (c.if-not-make.ensures.checked refl) (c.if-not-make.ensures.redone refl)
 
 pub returns-clause-follow : goal.returns-clause-follow
 returns-clause-follow g c = λ h.
@@ -62,6 +62,7 @@ returns-clause-stays g c =
       sizes = c.make.ensures.sizes;
       pages_device = c.make.ensures.device;
       frames = c.make.ensures.frames;
+      marked = c.make.ensures.marked;
       read = subst (IsRead l c.args.log.now.device) (sym device) (still l g.met.L.LogDevice.only_now c.args.log.now.device);
       forced = forced;
       running = c.append.ensures.failed;

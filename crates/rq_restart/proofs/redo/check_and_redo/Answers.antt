@@ -17,7 +17,7 @@ returns-in-Ok-clause-found g c = λ older place are few.
 
 pub returns-in-Ok-clause-repeated : goal.returns-in-Ok-clause-repeated
 returns-in-Ok-clause-repeated g c = λ older place are follow back.
-    one_repeated c.args.pages.now.sizes c.args.pages.now.sizes older c.args.record.now refl c.args.lsn place (paged c.args.pages.now) (paged c.apply.new.pages) ((c.may_take.ensures.next older are follow c.requires.plain c.can_be_read-reads.ensures back).0 c.if-not-may_take.false) (c.may_redo.ensures.0 c.if-not-may_redo.false) c.apply.ensures.redone c.apply.ensures.marked
+    one_repeated c.args.pages.now.sizes c.args.pages.now.sizes older c.args.record.now refl c.args.lsn place (paged c.args.pages.now) (paged c.apply.new.pages) ((c.may_take.ensures.next older are follow c.requires.plain c.can_be_read-reads.ensures back).0 c.if-not-may_take.false) (c.may_redo.ensures.0 c.if-not-may_redo.false) c.apply.ensures.redone
 
 -- what is refused would belong there otherwise
 pub returns-then-not-may_take-clause-not : goal.returns-then-not-may_take-clause-not
@@ -39,7 +39,7 @@ returns-in-Err-clause-not g c = λ older place are follow back.
     let r = c.args.record.now in
     let old = paged c.args.pages.now in
     let next = (c.may_take.ensures.next older are follow c.requires.plain c.can_be_read-reads.ensures back).0 c.if-not-may_take.false in
-    let may = subst (λ n. MayRedo z old.image n r) place (c.may_redo.ensures.0 c.if-not-may_redo.false) in
+    let may = subst (λ n. MayRedo z old n r) place (c.may_redo.ensures.0 c.if-not-may_redo.false) in
     subst (NotRepeated z older r old) (sym c.in-Err.ensures.err) (record {
       belongs = record { next = next.next; follows = next.follows; may = may };
       grows = subst (λ numbers. IsTrue (grows r numbers)) are.numbers c.in-Err.ensures.grows;

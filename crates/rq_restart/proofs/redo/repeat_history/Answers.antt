@@ -20,6 +20,7 @@ use Rattle.rq_restart.proofs.Going.{base_is, base_repeated, found_base, stopped_
 use Rattle.rq_log.proofs.Keeping.{front_begins}
 use Rattle.rq_restart.proofs.Repeated.{before_from, repeated_read, written_within}
 use Rattle.rq_restart.proofs.Framing.{stay_framed}
+use Rattle.rq_restart.proofs.Marking.{marked_twice, same_marked}
 use Rattle.rq_restart.proofs.redo.repeat_history.Goals as goal
 
 pub loop-analysis-preserved : goal.loop-analysis-preserved
@@ -60,6 +61,7 @@ loop-analysis-preserved g c =
       sizes = c.check_and_redo.ensures.sizes ∙ so_far.sizes;
       device = c.check_and_redo.ensures.device ∙ so_far.device;
       frames = c.check_and_redo.ensures.frames ∙ so_far.frames;
+      marked = marked_twice c.args.pages.now old new so_far.marked c.check_and_redo.ensures.marked;
     }
 
 pub returns-in-Err-check_and_redo-clause-stopped : goal.returns-in-Err-check_and_redo-clause-stopped
@@ -118,6 +120,7 @@ loop-analysis-preserved-in-Ok g c =
       sizes = so_far.sizes;
       device = so_far.device;
       frames = so_far.frames;
+      marked = so_far.marked;
     }
 
 pub returns-in_err-next_into-clause-stopped : goal.returns-in_err-next_into-clause-stopped
@@ -149,3 +152,6 @@ returns-clause-counted g c = λ b.
 
 pub check_and_redo-requires-clause-framed : goal.check_and_redo-requires-clause-framed
 check_and_redo-requires-clause-framed g c = (let so_far = c.loop-analysis.invariant in stay_framed c.args.pages.now c.loop-analysis.pages c.requires.framed so_far.sizes so_far.frames)
+
+pub returns-in-Err-check_and_redo-clause-marked : goal.returns-in-Err-check_and_redo-clause-marked
+returns-in-Err-check_and_redo-clause-marked g c = marked_twice c.args.pages.now c.loop-analysis.pages c.check_and_redo.new.pages c.loop-analysis.invariant.marked c.check_and_redo.ensures.marked

@@ -1,7 +1,7 @@
 use Rattle.std.proofs.Common.{◌≡◌, ℕ, ◌-◌, ◌^◌, ◌≤◌, length}
 use Rattle.rq_log.specs.Reading.{IsReading}
 use Rattle.rq_restart.specs.Found.{IsAnalysisOf}
-use Rattle.rq_restart.specs.Repeating.{ArePagesCounted, paged, Repeats}
+use Rattle.rq_restart.specs.Repeating.{AreMarked, ArePagesCounted, paged, Repeats}
 use Rattle.rq_restart.proofs.redo.repeat_history.Given as goal
 
 abbrev pub invariant-loop-analysis : goal.invariant-loop-analysis
@@ -15,6 +15,7 @@ invariant-loop-analysis g l = record {
   sizes : l.pages.sizes ≡ l.fn.pages.sizes;
   device : l.pages.device ≡ l.fn.pages.device;
   frames : l.pages.frames ≡ l.fn.pages.frames;
+  marked : AreMarked l.fn.pages l.pages;
 }
 
 abbrev pub decreases-loop-analysis : goal.decreases-loop-analysis

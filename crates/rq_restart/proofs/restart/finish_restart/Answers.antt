@@ -6,7 +6,7 @@ use Rattle.rq_analysis.specs.OpenWorkView.{OpenWorkView}
 use Rattle.rq_restart.specs.Numbers.{NamesFirst}
 use Rattle.rq_restart.specs.Checked.{WasReadAndRedone}
 use Rattle.rq_restart.specs.Refused.{WhyShut}
-use Rattle.rq_restart.specs.Repeating.{ArePagesCounted, paged}
+use Rattle.rq_restart.specs.Repeating.{AreMarked, ArePagesCounted, paged}
 use Rattle.rq_restart.specs.Restarting.{AreTold, IsRestarted, Reports}
 use Rattle.rq_restart.specs.RolledBack.{HasRepeated}
 use Rattle.rq_pool.specs.Pooled.{Pooled}
@@ -180,3 +180,6 @@ returns-in-Err-clause-fails g c =
 
 pub read_slots-requires-clause-framed : goal.read_slots-requires-clause-framed
 read_slots-requires-clause-framed g c = handed_framed g.L.LogDevice c.args.pages.now c.undo_all.new.pages c.args.log.now c.undo_all.new.log c.requires.framed c.in-Ok-undo_all.ensures.stays
+
+pub returns-in-Ok-begin_incarnation-clause-marked : goal.returns-in-Ok-begin_incarnation-clause-marked
+returns-in-Ok-begin_incarnation-clause-marked g c = subst (λ (p : Pooled _). AreMarked c.args.pages.now p) (sym c.read_slots.ensures.same) c.undo_all.ensures.stays.marked

@@ -1,4 +1,5 @@
-use Rattle.std.proofs.Common.{refl, sym}
+use Rattle.std.proofs.Common.{refl, subst, sym}
+use Rattle.std.specs.Prelude.{IsOk}
 use Rattle.rq_restart.proofs.restart.keep_frames.Goals as goal
 
 pub returns-in-Ok-clause-kept : goal.returns-in-Ok-clause-kept
@@ -9,6 +10,7 @@ returns-in-Ok-clause-kept g c =
         out = record { kept = made.kept; log = made.log; replacing = made.replacing; fit = made.fit };
         state = ok.state;
         counted = ok.counted;
+        enough = λ few. (made.enough few).1;
         stays = made.stays;
         count_is = ok.count;
       },
@@ -25,6 +27,7 @@ returns-in-Err-clause-stopped g c =
       sym back.log,
       record {
         out = record { kept = made.kept; log = made.log; replacing = made.replacing; fit = made.fit };
+        more = λ few. (let ok = subst IsOk c.in-Err.is (made.enough few).0 in absurd (cc ok));
         state = c.in-Err.ensures.stopped;
         is = err.0;
         failed = err.1;

@@ -11,6 +11,7 @@ use Rattle.rq_restart.specs.RolledBack.{HasRepeated}
 use Rattle.rq_restart.proofs.Moments.{begins_at_most, only_read}
 use Rattle.rq_restart.proofs.Restarts.{shut_by}
 use Rattle.rq_restart.proofs.Framing.{stay_framed}
+use Rattle.rq_restart.proofs.Marking.{marked_twice}
 use Rattle.rq_restart.proofs.restart.restart_log.Goals as goal
 
 pub returns-in-Ok-finish_restart-clause-opened : goal.returns-in-Ok-finish_restart-clause-opened
@@ -26,6 +27,7 @@ returns-in-Ok-finish_restart-clause-opened g c =
       sizes = c.finish_restart.ensures.sizes ∙ sizes;
       device = c.finish_restart.ensures.pages ∙ c.read_and_redo.ensures.device;
       frames = c.finish_restart.ensures.frames ∙ c.read_and_redo.ensures.frames;
+      marked = marked_twice c.args.pages mid c.finish_restart.new.pages c.read_and_redo.ensures.marked c.finish_restart.ensures.marked;
       pool = went.pool;
       cells_used = c.used_cells-cells.ensures;
       read = log;

@@ -13,7 +13,7 @@ returns-in-Ok-restart_log-clause-opened g c =
     let loaded = c.in-Ok.ensures in
     let o = c.in-Ok-restart_log.opened in
     rw c.open-engine.ensures (rw c.from.ensures
-    (opens_whole g.P.PageDevice g.L.LogDevice c.args.pages c.args.log c.in-Ok.pages loaded.pages loaded.seen loaded.changed loaded.cause loaded.device loaded.every o.pages o.log o.cells o.tables.waiting o.tables.sent o.tables.planner o.report c.in-Ok-restart_log.ensures.opened))
+    (opens_whole g.P.PageDevice g.L.LogDevice c.args.pages c.args.log g.met.P.PageDevice.only_now c.in-Ok.pages loaded.pages loaded.seen loaded.changed loaded.cause loaded.device loaded.every o.pages o.log o.cells o.tables.waiting o.tables.sent o.tables.planner o.report c.in-Ok-restart_log.ensures.opened))
 
 pub returns-in-Ok-restart_log-clause-left : goal.returns-in-Ok-restart_log-clause-left
 returns-in-Ok-restart_log-clause-left g c =
@@ -51,3 +51,6 @@ returns-in-Err-clause-left g c =
 
 pub open-engine-requires-clause-loose : goal.open-engine-requires-clause-loose
 open-engine-requires-clause-loose g c = λ q low fixed. c.in-Ok.ensures.loose q low (subst (λ (f : List Held). IsFixed f q) c.in-Ok-restart_log.ensures.opened.frames fixed)
+
+pub returns-in-Err-restart_log-clause-read : goal.returns-in-Err-restart_log-clause-read
+returns-in-Err-restart_log-clause-read g c = subst (OnlyRead g.P.PageDevice c.args.pages) (sym c.in-Err-restart_log.ensures.refused.same) c.in-Ok.ensures.device

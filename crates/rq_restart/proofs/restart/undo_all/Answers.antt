@@ -1,3 +1,4 @@
+use Rattle.rq_disk.specs.Device.{Images}
 use Rattle.rq_restart.specs.Undoing.{FailsWith, HandsOverNothing}
 use Rattle.rq_views.specs.Stored.{slots_in}
 use Rattle.std.proofs.Common.{◌≡◌, rules, subst, ap, sym, ◌∙◌, length}
@@ -6,7 +7,7 @@ use Rattle.rq_planner.specs.Answered.{KnowsCells}
 use Rattle.rq_chain_check.specs.Links.{AreLinked}
 use Rattle.rq_restart.specs.Aborting.{AbortingStops}
 use Rattle.rq_restart.specs.RolledBack.{IsRolledBackSince, LinkStops, RollbackStops}
-use Rattle.rq_restart.specs.Repeating.{ArePagesCounted, Paged, Repeats, paged, slots_on}
+use Rattle.rq_restart.specs.Repeating.{ArePagesCounted, Repeats, paged, slots_on}
 use Rattle.rq_restart.proofs.Linking.{link_fails, unlinked_stops}
 use Rattle.rq_restart.proofs.Undos.{and_then}
 use Rattle.rq_restart.proofs.RollingBack.{abort_rolls_nothing_back, rolled_back_since, undo_rolls_nothing_back}
@@ -52,7 +53,7 @@ returns-in_err-undo_unfinished-clause-stops g c =
     let z = c.args.pages.now.sizes in
     let log = c.args.log.now.records in
     let e = c.in_err-undo_unfinished.field-0.0 in
-    let h : g.L.LogDevice.honest c.undo_unfinished.new.log.device → (first : Paged) → Repeats z log first (paged c.args.pages.now) → RollbackStops z log first e = λ k first before. undo_rolls_nothing_back z log first e (c.in_err-undo_unfinished.ensures.stops k first before) in
+    let h : g.L.LogDevice.honest c.undo_unfinished.new.log.device → (first : Images) → Repeats z log first (paged c.args.pages.now) → RollbackStops z log first e = λ k first before. undo_rolls_nothing_back z log first e (c.in_err-undo_unfinished.ensures.stops k first before) in
     search (rules, h)
 
 pub returns-in_err-abort_lost-clause-stops : goal.returns-in_err-abort_lost-clause-stops
@@ -66,7 +67,7 @@ returns-in_err-abort_lost-clause-stops g c =
     let pool : IsPool z mid.images = subst (λ y. IsPool y mid.images) undo.stays.sizes undo.pool in
     let stays = rw (c.tell_cells.ensures.same) at c.abort_lost.ensures.stays in
     let read = stays.read in
-    let h : g.L.LogDevice.honest c.abort_lost.new.log.device → (first : Paged) → Repeats z log first (paged c.args.pages.now) → RollbackStops z log first e =
+    let h : g.L.LogDevice.honest c.abort_lost.new.log.device → (first : Images) → Repeats z log first (paged c.args.pages.now) → RollbackStops z log first e =
     λ k first before.
     let ku = read.honest k in
     let stops : AbortingStops z undone mid e = subst (λ y. AbortingStops y undone mid e) undo.stays.sizes (let stopped = rw (c.tell_cells.ensures.same) at c.in_err-abort_lost.ensures.stops in stopped k) in
@@ -86,7 +87,7 @@ returns-in-Err-clause-stops g c =
     let same = abort.stays.sizes ∙ undo.stays.sizes in
     let pool : IsPool z new.images = subst (λ y. IsPool y new.images) same c.check_links.ensures.pool in
     let stops : LinkStops z (slots_on z (paged new)) e = subst (λ y. LinkStops y (slots_on y (paged new)) e) same c.in-Err.ensures.stops in
-    let h : g.L.LogDevice.honest c.abort_lost.new.log.device → (first : Paged) → Repeats z log first (paged old) → RollbackStops z log first e = λ k first before.
+    let h : g.L.LogDevice.honest c.abort_lost.new.log.device → (first : Images) → Repeats z log first (paged old) → RollbackStops z log first e = λ k first before.
     let ku = abort.stays.read.honest k in
     let m : IsRolledBackSince z log now (paged old) (paged new) = rolled_back_since z log c.undo_unfinished.new.log.records now old c.undo_unfinished.new.pages new undo.stays.sizes (undo.undone ku) undo.pool (undo.repeated ku) (abort.gone_on k) abort.ended (λ x. (abort.none x).0) in
     unlinked_stops z log now (paged old) new m pool first before e stops in

@@ -1,8 +1,9 @@
 use Rattle.std.proofs.Common.{rules, ◌≡◌, ◌∷◌, [], Err, length, refl, ap, subst, sym, ◌∙◌}
 use Rattle.std.specs.Prelude.{IfErr}
+use Rattle.rq_disk.specs.Device.{Images}
 use Rattle.rq_log.specs.Logged.{Logged}
 use Rattle.rq_log.specs.Spelled.{AreSpelled}
-use Rattle.rq_restart.specs.Repeating.{ArePagesCounted, Belongs, IsRecordRedone, Paged, Repeats, paged}
+use Rattle.rq_restart.specs.Repeating.{ArePagesCounted, Belongs, IsRecordRedone, Repeats, paged}
 use Rattle.rq_restart.specs.Undoing.{StepStops, UndoStops}
 use Rattle.rq_restart.proofs.Undos.{and_then, going_more, going_stops, going_waits, like_undo_less, like_undo_range, none_handed, one_read}
 use Rattle.rq_restart.proofs.Framing.{handed_framed}
@@ -70,10 +71,10 @@ returns-in_err-undo-clause-stops g c =
     let e = c.in_err-undo.field-0.0 in
     let old = c.loop-next.log.device in
     let new = c.undo_record.new.log.device in
-    let h : l.honest new → (start : Paged) → Repeats z first start (paged c.args.pages.now) → UndoStops z first start e = λ h start before.
+    let h : l.honest new → (start : Images) → Repeats z first start (paged c.args.pages.now) → UndoStops z first start e = λ h start before.
     going_waits z c.loop-next.pages.sizes first c.loop-next.log.records (paged c.args.pages.now) (paged c.loop-next.pages) kept.stays.sizes (kept.undoing (c.undo_record.ensures.read.honest h)) l old new c.loop-next.analysis.open_work c.in-Some.next e kept.found.open_work c.in-Some.ensures.some c.in_err-undo.ensures.err h start in
     let is : c.from_residual.result ≡ Err e = search rules in
-    subst (λ r. IfErr r (λ x. l.honest new → (start : Paged) → Repeats z first start (paged c.args.pages.now) → UndoStops z first start x)) (sym is) h
+    subst (λ r. IfErr r (λ x. l.honest new → (start : Images) → Repeats z first start (paged c.args.pages.now) → UndoStops z first start x)) (sym is) h
 
 pub returns-in_err-append-clause-stops : goal.returns-in_err-append-clause-stops
 returns-in_err-append-clause-stops g c =
@@ -88,12 +89,12 @@ returns-in_err-append-clause-stops g c =
     let e = c.in_err-append.field-0.0 in
     let device = c.append.ensures.device in
     let same = ap (λ (x : Logged _). x.records) told.same in
-    let h : l.honest c.append.new.log.device → (start : Paged) → Repeats z first start (paged c.args.pages.now) → UndoStops z first start e = λ h.
+    let h : l.honest c.append.new.log.device → (start : Images) → Repeats z first start (paged c.args.pages.now) → UndoStops z first start e = λ h.
     let there : l.honest c.undo_record.new.log.device = subst l.honest device h in
     going_stops z old.sizes first log (paged c.args.pages.now) (paged old) kept.stays.sizes (kept.undoing (told.read.honest there)) r c.loop-next.analysis.open_work e kept.found.open_work (told.is there)
     (subst (λ rs. StepStops (length rs) (Belongs old.sizes rs r (paged old)) e) same (c.in_err-append.ensures.stops h)) in
     let is : c.from_residual-in_err-append.result ≡ Err e = search rules in
-    subst (λ r. IfErr r (λ x. l.honest c.append.new.log.device → (start : Paged) → Repeats z first start (paged c.args.pages.now) → UndoStops z first start x)) (sym is) h
+    subst (λ r. IfErr r (λ x. l.honest c.append.new.log.device → (start : Images) → Repeats z first start (paged c.args.pages.now) → UndoStops z first start x)) (sym is) h
 
 pub returns-clause-stops : goal.returns-clause-stops
 returns-clause-stops g c = tt
