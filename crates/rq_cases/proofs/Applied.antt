@@ -1,5 +1,5 @@
 -- What one call makes of a whole open store.
-use Rattle.std.proofs.Common.{◌≡◌, Bool, ℕ, ◌+◌, ◌≤◌, List, [], Ok, length, take, drop, refl, sym, ap, ◌∙◌, arith, ⊎_elim}
+use Rattle.std.proofs.Common.{◌≡◌, Bool, ℕ, zero, suc, ◌+◌, ◌<◌, ◌≤◌, List, [], Ok, length, take, drop, refl, sym, ap, ◌∙◌, arith, ⊎_elim}
 use Rattle.std.proofs.lemmas.List.{length-drop}
 use Rattle.rq_model.specs.Causes.{writes_out}
 use Rattle.rq_model.specs.declared.record.Record.{Record}
@@ -15,10 +15,11 @@ use Rattle.rq_engine.specs.Applied.{RefusedBy}
 use Rattle.rq_engine.specs.Opened.{pooled}
 use Rattle.rq_engine.specs.Says.{call_of}
 use Rattle.rq_engine.proofs.Crashing.{runs_through_cuts}
+use Rattle.rq_pool.specs.Held.{IsFramed, page_at}
 use Rattle.rq_pool.specs.declared.Written.TheVariants.{Done}
 use Rattle.rq_pool.proofs.KeptUp.{kept_after, kept_then}
 use Rattle.rq_core.specs.Devices.{mem_log, mem_pages}
-use Rattle.rq_cases.specs.Applied.{CallsAreApplied, Makes, MeetsAll, written_out}
+use Rattle.rq_cases.specs.Applied.{CallsAreApplied, Makes, MeetsAll, in_two_frames, written_out}
 use Rattle.rq_cases.specs.Opened.{AreNewPages, IsForcedSince, IsNewLog, over}
 use Rattle.rq_cases.specs.Run.{log_1, log_5, committed, forced}
 use Rattle.rq_cases.specs.Store.{formatted_pages, page_image, cells_1}
@@ -48,6 +49,7 @@ module _ (pages : MemPages) (old new : MemLog) (p : AreNewPages pages formatted_
     cause = λ h earlier long k. tt;
     latched = λ earlier long k. tt;
     frames = tt;
+    frame_count = refl;
     sizes = refl;
     unknown = refl;
     replacing = refl;
@@ -82,6 +84,14 @@ nothing_left lost le e =
     let m = length-drop lost log_5 in
     omega (arith, n, m, le)
 
+-- the directory page stands in none of two frames
+outside : (pages : MemPages) (log : MemLog) → IsFramed (in_two_frames pages log).frames 1 → ⊥
+outside pages log f = by f.at f.within f.is where
+  by : (at : ℕ) → at < 2 → page_at (in_two_frames pages log).frames at ≡ 1 → ⊥
+  by zero lt is = omega (arith, is)
+  by (suc zero) lt is = omega (arith, is)
+  by (suc (suc n)) lt is = omega (arith, lt)
+
 pub applied : CallsAreApplied
 applied = record {
   before_the_force = force_meets;
@@ -92,10 +102,12 @@ applied = record {
   refused_and_changed = λ old new e reads other a. other (subst (λ (b : Bool). RefusedBy b (writes_out (call_of e)) (call_of e) old why.NoMemory new) reads a.refused);
   refused_by_a_test_and_changed = λ old new t other a. other a.refused.1;
   evicted = λ pages new log t sub after. (
-    kept_after mem_pages 5 (pooled (over forced pages log)) (pooled (written_out pages new log)) 2 (Ok Done)
+    kept_after mem_pages 5 (pooled (in_two_frames pages log)) (pooled (written_out pages new log)) 2 (Ok Done)
         (record { of_store = omega arith; changed = refl }, let e = cell_page_lsn in omega (arith, e)) after refl refl refl,
     after.2,
+    λ all. absurd (outside pages log (all 1 (omega arith) (omega arith))),
   );
+  evicted_for_nothing = λ old new t r all other a. other (a.pages.2 all).0;
   evicted_again = λ forced old mid new a b. kept_then mem_pages forced old mid new a b;
   evicted_and_failed = λ old new t runs a.
       (let f = sym runs ∙ ap (λ (s : State). s.failed) a.refused.1 in cc f);

@@ -65,7 +65,7 @@ use Rattle.rq_restart.specs.Aborting.{RepeatedFrom}
 use Rattle.rq_restart.specs.Checked.{IsEnded, IsReadAndRedone}
 use Rattle.rq_chain_check.specs.Links.{AreLinked}
 use Rattle.rq_chain_check.proofs.Sound.{sound_linked}
-use Rattle.rq_restart.specs.Repeating.{Paged, Repeats, slots_on}
+use Rattle.rq_restart.specs.Repeating.{Repeats, slots_on}
 use Rattle.rq_analysis.specs.Pages.{IsUndone}
 use Rattle.rq_restart.specs.RolledBack.{IsRolledBack}
 use Rattle.rq_restart.specs.Restarting.{LogStops, StopsOver}
@@ -293,6 +293,7 @@ module _ (n : ℕ) where
           cause = λ honest earlier long k. tt;
           latched = λ earlier long k. tt;
           frames = tt;
+          frame_count = refl;
           sizes = refl;
           unknown = refl;
           replacing = refl;
@@ -330,6 +331,7 @@ module _ (n : ℕ) where
           cause = λ honest earlier long k. tt;
           latched = λ earlier long k. tt;
           frames = tt;
+          frame_count = refl;
           sizes = refl;
           unknown = refl;
           replacing = refl;
@@ -391,7 +393,6 @@ repeats (suc n) = (
       may = record { write = tt; before = tt };
     };
     redone = λ p. refl;
-    marked = refl;
   },
 )
 
@@ -476,7 +477,7 @@ module _ (n : ℕ) (pages : MemPages) (log : MemLog) (h : Hold pages formatted_p
         },
       ))
 
-  fits_over : (z : Sizes) (first : Paged) (new : MemLog) → n < 2 ^ 50 → StopsOver mem_log z first why.LogFull log new → ⊥
+  fits_over : (z : Sizes) (first : Images) (new : MemLog) → n < 2 ^ 50 → StopsOver mem_log z first why.LogFull log new → ⊥
   fits_over z first new low (inl l) = ⊎_elim
       (λ s.
       let more = s.1 tt in
@@ -495,7 +496,7 @@ module _ (n : ℕ) (pages : MemPages) (log : MemLog) (h : Hold pages formatted_p
       let long = b.full in
       omega (arith, low, e, d, f, long)
 
-  fits_restart : (z : Sizes) (first : Paged) (new : MemLog) → n < 2 ^ 50 → LogStops mem_log z first why.LogFull log new → ⊥
+  fits_restart : (z : Sizes) (first : Images) (new : MemLog) → n < 2 ^ 50 → LogStops mem_log z first why.LogFull log new → ⊥
   fits_restart z first new low s = fits_over z first new low (s.over tt)
 
 -- with nothing under way, what a call counts as is all that is counted

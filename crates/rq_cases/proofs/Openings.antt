@@ -1,7 +1,6 @@
 -- What a restart has checked, what it leaves of a log, and why it was refused.
-use Rattle.std.proofs.Common.{◌≡◌, ◌⊎◌, ⊎_elim, ℕ, zero, suc, ◌+◌, ◌%◌, ◌^◌, Bool, false, true, List, [], ◌∷◌, ◌++◌, length, take, drop, refl, sym, ap, ◌∙◌, ◌≤◌, subst, inl, inr, arith, append_assoc, length-append}
+use Rattle.std.proofs.Common.{◌≡◌, ◌⊎◌, ⊎_elim, ℕ, ◌+◌, ◌%◌, ◌^◌, Bool, false, true, List, [], ◌∷◌, ◌++◌, length, take, drop, refl, sym, ap, ◌∙◌, ◌≤◌, subst, inl, inr, arith, append_assoc, length-append}
 use Rattle.std.proofs.Math.Seq.{drop-append_seam}
-use Rattle.std.proofs.lemmas.Bool.{true≢false}
 use Rattle.std.proofs.lemmas.List.{append-nil, length-take-le, take-append-drop}
 use Rattle.rq_restart.specs.Once.{OneLogEach}
 use Rattle.rq_bytes.specs.Number.{number}
@@ -24,15 +23,13 @@ use Rattle.rq_log.proofs.Runs.{ends_all, spelled-append}
 use Rattle.rq_page.specs.Formatted.{IsHeaderOf}
 use Rattle.rq_page.specs.Pages.{lsn_of}
 use Rattle.rq_page.specs.Sizes.{Sizes}
-use Rattle.rq_pool.specs.Pooled.{is_changed}
 use Rattle.rq_pool.specs.Reading.{ArePages, IsSoundPage}
 use Rattle.rq_views.specs.WorkedItems.{t1}
 use Rattle.rq_store.specs.Fitting.{image_in}
 use Rattle.rq_store.specs.Opening.{next_restart}
 use Rattle.rq_store.specs.State.{ledger_of, size_of}
-use Rattle.rq_restart.specs.Checked.{as_read}
 use Rattle.rq_restart.proofs.Begun.{rolled_back_extends}
-use Rattle.rq_restart.specs.Repeating.{Paged, Repeats}
+use Rattle.rq_restart.specs.Repeating.{Repeats}
 use Rattle.rq_restart.specs.Restarting.{IsBegunOn, LogStops, StopsOver}
 use Rattle.rq_log.proofs.Parsing.{one_log}
 use Rattle.rq_restart.specs.Underway.{IsGoneOnWith, OfStores}
@@ -81,7 +78,7 @@ none_seen : (pages : MemPages) → AreNewPages pages no_cells → mem_pages.seen
 none_seen pages n = ap (λ (seen : Images). seen 2) (pages_seen_are pages no_cells n)
 
 -- the log that was read
-module _ (pages : MemPages) (log new : MemLog) (last : Paged) (records : List Record) (k : Checked pages log new last records) where
+module _ (pages : MemPages) (log new : MemLog) (last : Images) (records : List Record) (k : Checked pages log new last records) where
   read_is : (r : Record) (older : List Record) → records ≡ r ∷ older → older ≡ k.rolled_back
   read_is r older e = ap rest_of (sym e ∙ k.begun)
 
@@ -95,8 +92,8 @@ stayed : (pages : MemPages) (log new : MemLog) → AreNewPages pages formatted_p
 stayed pages log new n k =
     let same : log_5 ≡ k.rolled_back = read_is pages log new read_pages log_next k (Restart 2) log_5 refl in
     let seen = k.seen tt 2 (omega arith) ∙ ap (λ (seen : Images). seen 2) (pages_seen_are pages formatted_pages n) in
-    made_there (as_read sizes k.images) read_pages (ap lsn_of seen ∙ no_cell_lsn) no_cell_lsn
-    (subst (λ (l : List Record). Repeats sizes l (as_read sizes k.images) read_pages) (sym same) k.rolled_back_on.repeated)
+    made_there (image_in k.images) read_pages (ap lsn_of seen ∙ no_cell_lsn) no_cell_lsn
+    (subst (λ (l : List Record). Repeats sizes l (image_in k.images) read_pages) (sym same) k.rolled_back_on.repeated)
 
 pub checks : ChecksAreJudged
 checks = record {
@@ -127,21 +124,21 @@ pub only_read : (d : MemLog) → IsRead mem_log d d
 only_read d = record { same = refl; honest = λ h. h; leaves = λ c may. may; moments = started mem_log d (mem_log.may_leave d) (λ c left. log_now d c left) }
 
 -- no log is refused so for these
-never_stops : (z : Sizes) (first : Paged) (old new : MemLog) → LogStops mem_log z first why.Full old new → ⊥
+never_stops : (z : Sizes) (first : Images) (old new : MemLog) → LogStops mem_log z first why.Full old new → ⊥
 never_stops z first old new s = over (s.over tt) where
   over : StopsOver mem_log z first why.Full old new → ⊥
   over (inl l) = ⊎_elim (λ s. s) (⊎_elim (λ w. (let e = w.0 in cc e)) (λ b. (let e = b.told in cc e))) l.why
   over (inr r) = r.3
 
 -- nor as unfinished
-never_unfinished : (z : Sizes) (first : Paged) (old new : MemLog) → LogStops mem_log z first why.Unfinished old new → ⊥
+never_unfinished : (z : Sizes) (first : Images) (old new : MemLog) → LogStops mem_log z first why.Unfinished old new → ⊥
 never_unfinished z first old new s = over (s.over tt) where
   over : StopsOver mem_log z first why.Unfinished old new → ⊥
   over (inl l) = ⊎_elim (λ s. s) (⊎_elim (λ w. (let e = w.0 in cc e)) (λ b. (let e = b.told in cc e))) l.why
   over (inr r) = r.3
 
 -- where there is no room the log was only read
-full_read : (z : Sizes) (first : Paged) (old new : MemLog) → LogStops mem_log z first why.LogFull old new → IsRead mem_log old new
+full_read : (z : Sizes) (first : Images) (old new : MemLog) → LogStops mem_log z first why.LogFull old new → IsRead mem_log old new
 full_read z first old new s = s.read (λ e. cc e)
 
 pub refusals : RefusalsAreJudged
@@ -166,18 +163,9 @@ few_frames = record {
       (λ p. p.0)
       (⊎_elim (λ l. never_next (mem_log.faults log) (sym kept ∙ l.5.counted)) (λ w. never_next (mem_pages.faults pages) (sym same ∙ w.failed))) s;
   written_and_full = λ pages new_pages log new_log other s. ⊎_elim (λ only. other only.same) (λ w. (let e = w.is in cc e)) s.refuses.pages_read;
-  written_out = λ images. record {
-    image = λ page. refl;
-    changed = λ page e. written page e;
-    framed = λ page f. absurd (let none = f.within in omega (arith, none));
-  };
-  written_in_a_frame = λ frames last now page f was is o. true≢false (sym was ∙ sym (o.framed page f) ∙ is);
-  changed_for_nothing = λ frames last now page was is o. true≢false (sym (o.changed page is) ∙ was);
-  another_image = λ frames last now page other o. other (o.image page);
-} where
-  written : (page : ℕ) → is_changed (false ∷ []) page ≡ true → is_changed (true ∷ []) page ≡ true
-  written zero e = refl
-  written (suc n) e = absurd (true≢false (sym e))
+  changed_for_nothing = λ pages log count s report page within changed same o. (let newer = o.marked tt page within changed in omega (arith, newer, same));
+  left_another = λ pages log count s report page c left never other o. ⊎_elim never (λ image. other image.0) (o.pages_left.now page c left);
+}
 
 next_spelled : AreSpelled log_next
 next_spelled = ((omega arith, omega arith), records_spelled)

@@ -25,7 +25,7 @@ use Rattle.rq_store.specs.Whole.{IsWhole}
 use Rattle.rq_store.proofs.Based.{unbased}
 use Rattle.rq_store.proofs.Cutting.{whole_dropped, fits_log_longer}
 use Rattle.rq_store.proofs.Formatting.{formatted_fits}
-use Rattle.rq_restart.specs.Repeating.{ArePagesCounted, Paged, Repeats}
+use Rattle.rq_restart.specs.Repeating.{ArePagesCounted, Repeats}
 use Rattle.rq_restart.specs.Restarting.{IsBegunOn, IsLeftOn}
 use Rattle.rq_restart.proofs.Begun.{rolled_back_incarnation}
 use Rattle.rq_analysis.proofs.Recovering.{recovered_from}
@@ -117,17 +117,17 @@ pub whole_5 : IsWhole sizes log_5
 whole_5 = running.commit_send.sound.log
 
 -- the write of the cell was made, whatever the pages were between
-pub made_there : (first last : Paged) → lsn_of (first.image 2) ≡ 0 → lsn_of (last.image 2) ≡ 0 → Repeats sizes log_5 first last → ⊥
+pub made_there : (first last : Images) → lsn_of (first 2) ≡ 0 → lsn_of (last 2) ≡ 0 → Repeats sizes log_5 first last → ⊥
 made_there first last none still five =
     let four = five.1 in
     let three = four.1 in
     let two = three.1 in
     let one = two.1 in
-    let was : lsn_of (two.0.image 2) ≡ 0 = ap lsn_of (one.2.redone 2) ∙ ap (λ (m : Paged). lsn_of (m.image 2)) one.1 ∙ none in
-    let made : lsn_of (three.0.image 2) ≡ 2 = (two.2.redone.made (omega (arith, was))).lsn in
-    let then : lsn_of (four.0.image 2) ≡ lsn_of (three.0.image 2) = ap lsn_of (three.2.redone.others 2 (λ e. omega (arith, e))) in
-    let end : lsn_of (five.0.image 2) ≡ lsn_of (four.0.image 2) = ap lsn_of (four.2.redone 2) in
-    let now : lsn_of (last.image 2) ≡ lsn_of (five.0.image 2) = ap lsn_of (five.2.redone 2) in
+    let was : lsn_of (two.0 2) ≡ 0 = ap lsn_of (one.2.redone 2) ∙ ap (λ (m : Images). lsn_of (m 2)) one.1 ∙ none in
+    let made : lsn_of (three.0 2) ≡ 2 = (two.2.redone.made (omega (arith, was))).lsn in
+    let then : lsn_of (four.0 2) ≡ lsn_of (three.0 2) = ap lsn_of (three.2.redone.others 2 (λ e. omega (arith, e))) in
+    let end : lsn_of (five.0 2) ≡ lsn_of (four.0 2) = ap lsn_of (four.2.redone 2) in
+    let now : lsn_of (last 2) ≡ lsn_of (five.0 2) = ap lsn_of (five.2.redone 2) in
     omega (arith, made, then, end, now, still)
 
 pub open_4 : IsEnded log_4 → ⊥

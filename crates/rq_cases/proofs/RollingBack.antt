@@ -1,6 +1,7 @@
 -- What undoes what has no end in a log.
 use Rattle.std.proofs.Common.{◌≡◌, ℕ, ◌+◌, ◌<◌, ◌≤◌, Bool, true, false, List, [], ◌∷◌, length, take, refl, sym, ◌∙◌, ap, subst, arith}
 use Rattle.std.proofs.lemmas.Bool.{false≢true}
+use Rattle.rq_disk.specs.Device.{Images}
 use Rattle.rq_model.specs.declared.record.Record.{Record}
 use Rattle.rq_model.specs.declared.record.Record.TheVariants as records
 use Rattle.rq_model.specs.declared.record.Record.TheVariants.{AbortEnd, Commit, CompEnd}
@@ -22,7 +23,6 @@ use Rattle.rq_restart.specs.Aborting.{AbortsBehind, AreRounds, IsAborting, IsTak
 use Rattle.rq_restart.specs.Aborting.IsAborting.{Between, Within}
 use Rattle.rq_restart.specs.Aborting.Round.{Ends, TakesBack}
 use Rattle.rq_restart.specs.RolledBack.{IsRolledBack}
-use Rattle.rq_restart.specs.Repeating.{Paged}
 use Rattle.rq_restart.proofs.Aborts.{aborts_none}
 use Rattle.rq_restart.proofs.Begun as begun
 use Rattle.rq_cases.specs.RollingBack.{MendsAreJudged}
@@ -107,7 +107,7 @@ newest_write t n w [] log = refl
 newest_write t n w (x ∷ ws) log = newest_write t n x ws (page_op t n w ∷ log)
 
 -- what is no record of an abort is none behind the log
-not_aborting : (on : List Record → Paged → Type 0) (r : Record) → is_write (r ∷ log_two) ≡ false → (AbortsBehind log_two (r ∷ log_two) → ⊥) → IsAborting items.sizes on log_two (r ∷ log_two) → ⊥
+not_aborting : (on : List Record → Images → Type 0) (r : Record) → is_write (r ∷ log_two) ≡ false → (AbortsBehind log_two (r ∷ log_two) → ⊥) → IsAborting items.sizes on log_two (r ∷ log_two) → ⊥
 not_aborting on r off none (Between a) = none a.behind
 not_aborting on r off none (Within older d n ws made a next plan are) = by (take made ws) are where
   by : (us : List SlotWrite) → with_writes d.txn n us older ≡ r ∷ log_two → ⊥

@@ -1,6 +1,6 @@
 -- What one call makes of a whole open store: a force where a message is committed; and answers and stores that no call
 -- may give.
-use Rattle.std.specs.Prelude.{◌≡◌, ◌≢◌, ◌<◌, ◌^◌, ℕ, List, [], Ok, slice_set, take, false, true}
+use Rattle.std.specs.Prelude.{◌≡◌, ◌≢◌, ◌<◌, ◌^◌, ℕ, List, [], ◌∷◌, Ok, slice_set, take, false, true}
 use Rattle.rq_model.specs.declared.refusal.Refusal.TheVariants as why
 use Rattle.rq_model.specs.declared.txn.Sub.{Sub}
 use Rattle.rq_model.specs.declared.txn.Txn.{Txn}
@@ -9,6 +9,7 @@ use Rattle.rq_disk.specs.declared.mem_pages.MemPages.{MemPages}
 use Rattle.rq_log.specs.Spelled.{spelled}
 use Rattle.rq_page.specs.Pages.{lsn_of}
 use Rattle.rq_pool.specs.declared.Written.TheVariants.{Done, Nothing}
+use Rattle.rq_pool.specs.Fetching.{AreAllFramed}
 use Rattle.rq_pool.specs.KeptUp.{IsKeptUp}
 use Rattle.rq_pool.specs.Pooled.{Pooled, image_at, is_changed}
 use Rattle.rq_pool.specs.Writing.{DeviceAfter}
@@ -17,7 +18,7 @@ use Rattle.rq_engine.specs.Applied.{Applied}
 use Rattle.rq_engine.specs.Crash.{AreFit}
 use Rattle.rq_model.specs.Causes.{reads_pages}
 use Rattle.rq_engine.specs.Says.{PagesSay, call_of}
-use Rattle.rq_engine.specs.Opened.{AreHonest, OpenStore}
+use Rattle.rq_engine.specs.Opened.{AreHonest, OpenStore, pooled}
 use Rattle.rq_engine.specs.declared.event.Event.{Event}
 use Rattle.rq_engine.specs.declared.event.Event.TheVariants as event
 use Rattle.rq_engine.specs.declared.event.Reply.{Reply}
@@ -37,9 +38,15 @@ pub record MeetsAll (s : OpenStore MemPages MemLog) : Type 0 where
   pub sound : IsSound s.state
   pub fit : AreFit mem_pages s
 
--- the store whose message's commit is forced, with its page written out to this device
+-- the store whose message's commit is forced, with a frame for the cell page alone beside that of the superblock
+abbrev pub in_two_frames : MemPages → MemLog → OpenStore MemPages MemLog
+in_two_frames pages log = record (over forced pages log) {
+  frames = record { page = 0; fixed = true } ∷ record { page = 2; fixed = false } ∷ [];
+}
+
+-- its page written out to this device
 abbrev pub written_out : MemPages → MemPages → MemLog → OpenStore MemPages MemLog
-written_out pages new log = record (over forced pages log) { pages = new; changed = slice_set (over forced pages log).changed 2 false }
+written_out pages new log = record (in_two_frames pages log) { pages = new; changed = slice_set (over forced pages log).changed 2 false }
 
 -- the commit of a message is forced; and what no call may answer or make, whatever else it does
 pub record CallsAreApplied : Type 0 where
@@ -61,7 +68,10 @@ pub record CallsAreApplied : Type 0 where
   -- A start may write out a page whose last record is forced; it stays whole. It may write out more.
   pub evicted : (pages new : MemPages) (log : MemLog) (t : Txn) (sub : Sub)
       → DeviceAfter mem_pages 2 (page_image 2 2 2 cells_1) pages new (Ok Done)
-      → PagesSay mem_pages (over forced pages log) (written_out pages new log) (event.StartReceive t) (reply.Started sub)
+      → PagesSay mem_pages (in_two_frames pages log) (written_out pages new log) (event.StartReceive t) (reply.Started sub)
+  -- none where each stands in a frame
+  pub evicted_for_nothing : (old new : OpenStore MemPages MemLog) (t : Txn) (r : Reply) → AreAllFramed (pooled old)
+      → new.pages ≢ old.pages → Makes old (event.StartReceive t) r new → ⊥
   pub evicted_again : (forced : ℕ) (old mid new : Pooled MemPages) → IsKeptUp mem_pages forced old mid
       → IsKeptUp mem_pages forced mid new → IsKeptUp mem_pages forced old new
   pub evicted_and_failed : (old new : OpenStore MemPages MemLog) (t : Txn) → new.state.failed ≡ false

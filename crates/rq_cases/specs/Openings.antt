@@ -14,14 +14,13 @@ use Rattle.rq_log.specs.Logged.{Logged}
 use Rattle.rq_log.specs.Spelled.{spelled}
 use Rattle.rq_views.specs.WorkedItems.{t1, t2}
 use Rattle.rq_page.specs.Sizes.{page_count}
-use Rattle.rq_pool.specs.Held.{Held, IsFramed}
-use Rattle.rq_pool.specs.Pooled.{is_changed}
+use Rattle.rq_page.specs.Pages.{lsn_of}
+use Rattle.rq_pool.specs.Pooled.{image_at, is_changed}
 use Rattle.rq_store.specs.Fitting.{image_in}
 use Rattle.rq_engine.specs.Answers.{Refuses}
 use Rattle.rq_engine.specs.Opened.{OpenStore}
 use Rattle.rq_restart.specs.Refused.{BeginsNot, MayBeShut}
 use Rattle.rq_restart.specs.Opens.{Opens}
-use Rattle.rq_restart.specs.Repeating.{AreAsRepeated, Paged}
 use Rattle.rq_restart.specs.declared.restart.Report.{Report}
 use Rattle.rq_restart.specs.Restarting.{BeginsAtMost, IsBegun, IsReady, IsRefusedFor, LogStops, WasChecked}
 use Rattle.rq_restart.specs.Underway.{IsLeftOrGoesOn, OfStores}
@@ -39,22 +38,22 @@ abbrev pub log_next : List Record
 log_next = Restart 2 ∷ log_5
 
 -- both devices were read, and left so; this was checked of them
-abbrev pub Checked : MemPages → MemLog → MemLog → Paged → List Record → Type 0
+abbrev pub Checked : MemPages → MemLog → MemLog → Images → List Record → Type 0
 Checked pages log new last records = WasChecked mem_pages mem_log pages log sizes last records pages new
 
 pub record ChecksAreJudged : Type 0 where
   pub not_repeated : (pages : MemPages) (log new : MemLog) → IsNewLog log log_5 → AreNewPages pages formatted_pages
       → Checked pages log new read_pages log_next → ⊥
-  pub no_record : (pages : MemPages) (log new : MemLog) (last : Paged) → Checked pages log new last log_5 → ⊥
-  pub another_incarnation : (pages : MemPages) (log new : MemLog) (last : Paged)
+  pub no_record : (pages : MemPages) (log new : MemLog) (last : Images) → Checked pages log new last log_5 → ⊥
+  pub another_incarnation : (pages : MemPages) (log new : MemLog) (last : Images)
       → Checked pages log new last (Restart 3 ∷ log_5) → ⊥
-  pub one_open : (pages : MemPages) (log new : MemLog) (last : Paged)
+  pub one_open : (pages : MemPages) (log new : MemLog) (last : Images)
       → Checked pages log new last (Restart 2 ∷ log_4) → ⊥
-  pub another_log : (pages : MemPages) (log new : MemLog) (last : Paged) → IsNewLog log log_1
+  pub another_log : (pages : MemPages) (log new : MemLog) (last : Images) → IsNewLog log log_1
       → Checked pages log new last log_next → ⊥
-  pub page_of_none : (pages : MemPages) (log new : MemLog) (last : Paged) (records : List Record)
+  pub page_of_none : (pages : MemPages) (log new : MemLog) (last : Images) (records : List Record)
       → AreNewPages pages no_cells → Checked pages log new last records → ⊥
-  pub no_room : (pages : MemPages) (log new : MemLog) (last : Paged) (r : Record) (records : List Record)
+  pub no_room : (pages : MemPages) (log new : MemLog) (last : Images) (r : Record) (records : List Record)
       → 2 ^ 50 < length (r ∷ records) → Checked pages log new last (r ∷ records) → ⊥
 
 -- a restart of these devices was refused so, and left them so
@@ -90,14 +89,14 @@ pub record FewFramesAreJudged : Type 0 where
       → IsRefused pages log why.DiskWrite new_pages new_log → ⊥
   pub written_and_full : (pages new_pages : MemPages) (log new_log : MemLog)
       → mem_pages.seen new_pages ≢ mem_pages.seen pages → StaysShut pages log why.LogFull new_pages new_log → ⊥
-  -- a page that stands in no frame was written out, or one that does was; one counts as changed for nothing; an image is another
-  pub written_out : (images : Images) → AreAsRepeated [] (record { image = images; changed = true ∷ [] }) (record { image = images; changed = false ∷ [] })
-  pub written_in_a_frame : (frames : List Held) (last now : Paged) (page : ℕ) → IsFramed frames page
-      → is_changed last.changed page ≡ true → is_changed now.changed page ≡ false → AreAsRepeated frames last now → ⊥
-  pub changed_for_nothing : (frames : List Held) (last now : Paged) (page : ℕ)
-      → is_changed last.changed page ≡ false → is_changed now.changed page ≡ true → AreAsRepeated frames last now → ⊥
-  pub another_image : (frames : List Held) (last now : Paged) (page : ℕ)
-      → now.image page ≢ last.image page → AreAsRepeated frames last now → ⊥
+  -- a page counts as changed that is as it was read; and a crash leaves of one what it could not, and no image
+  pub changed_for_nothing : (pages : MemPages) (log : MemLog) (count : ℕ) (s : OpenStore MemPages MemLog) (report : Report) (page : ℕ)
+      → page < page_count s.state.sizes → is_changed s.changed page ≡ true
+      → lsn_of (image_at s.state.images page) ≡ lsn_of (mem_pages.seen pages page)
+      → Opens mem_pages mem_log pages log count s report → ⊥
+  pub left_another : (pages : MemPages) (log : MemLog) (count : ℕ) (s : OpenStore MemPages MemLog) (report : Report) (page : ℕ)
+      (c : List ℕ) → mem_pages.may_be s.pages page c → (mem_pages.may_be pages page c → ⊥)
+      → c ≢ image_at s.state.images page → Opens mem_pages mem_log pages log count s report → ⊥
 
 -- a log of these records, all of them forced, over a device
 abbrev pub logged : List Record → MemLog → Logged MemLog

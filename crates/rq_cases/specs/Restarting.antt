@@ -1,5 +1,6 @@
 -- What a restart finds, makes and refuses, over the worked run.
 use Rattle.std.specs.Prelude.{ℕ, List, ◌∷◌, length}
+use Rattle.rq_disk.specs.Device.{Images}
 use Rattle.rq_model.specs.declared.record.Record.{Record}
 use Rattle.rq_model.specs.declared.refusal.Refusal.{Refusal}
 use Rattle.rq_model.specs.declared.record.Record.TheVariants.{Commit, Restart}
@@ -11,19 +12,18 @@ use Rattle.rq_log.specs.Spelled.{spelled}
 use Rattle.rq_views.specs.WorkedItems.{t1}
 use Rattle.rq_store.specs.Fitting.{image_in}
 use Rattle.rq_store.specs.Opening.{IsLeft}
-use Rattle.rq_restart.specs.Repeating.{Paged}
 use Rattle.rq_restart.specs.Restarting.{IsBegunOn, IsLeftOn, IsReadAs, Reports, Stops}
 use Rattle.rq_restart.specs.RolledBack.{IsUnlinked}
 use Rattle.rq_restart.specs.Refused.{WhyShut}
-use Rattle.rq_restart.specs.Checked.{IsEnded, IsReadAndRedone, as_read}
+use Rattle.rq_restart.specs.Checked.{IsEnded, IsReadAndRedone}
 use Rattle.rq_core.specs.Devices.{mem_log, mem_pages}
 use Rattle.rq_cases.specs.Opened.{AreNewPages, IsNewLog}
 use Rattle.rq_cases.specs.Run.{log_1, log_4, log_5}
 use Rattle.rq_cases.specs.Store.{formatted_pages, sent_pages, sizes}
 
 -- the pages as they were read, and once the log of the send is gone through
-abbrev pub read_pages : Paged
-read_pages = as_read sizes formatted_pages
+abbrev pub read_pages : Images
+read_pages = image_in formatted_pages
 
 -- a restart was refused for this over the log, and the log's device was left alone
 abbrev pub Shuts : List Record → Refusal → Type 0 → Type 0
