@@ -3,7 +3,7 @@
 mixed up or gone, calls come short, clients say anything. Each time the answer is one of docs/OPERATING.md, a client that behaves is
 served, and what was acknowledged is there at the next start.
 
-    python3 tests/hostile.py [--program PROGRAM] [--seed N] [--rounds N] [--minutes M] [--workers W] [NAME..]
+    python3 tests/hostile.py [--program PROGRAM] [--seed N] [--rounds N] [--minutes M] [--workers W] [--frames F] [NAME..]
 
 A name is one of the tests below, as `signals`; without one all are run, but for `long_sessions`. That runs a server with one worker, and
 then one with four, or one with W.
@@ -1130,17 +1130,20 @@ def main():
     words.add_argument("--rounds", type=int, default=10, help="how often a server is ended, and a sixtieth of the hostile clients")
     words.add_argument("--minutes", type=float, default=10, help="how long each server of `long_sessions` runs")
     words.add_argument("--workers", type=int, help="the workers of its one server")
+    words.add_argument("--frames", help="in how many frames servers run that are under load")
     words.add_argument("names", nargs="*", metavar="NAME", help="these tests alone")
     chosen = words.parse_args()
     for number in ENDING + [signal.SIGQUIT]:
         if signal.getsignal(number) == signal.SIG_IGN:  # as of what a shell runs in the background: programs would inherit it
             signal.signal(number, signal.SIG_DFL)
     program = built(chosen.program, "rqm")
+    Server.frames = ("--frames", chosen.frames) if chosen.frames else ()
+    few = f", in {chosen.frames} frames" if chosen.frames else ""
     known = {test.__name__: test for test in [*TESTS, long_sessions]}
     for name in chosen.names or [test.__name__ for test in TESTS]:
         before = time.monotonic()
         told = known[name](program, chosen)
-        print(f"{name}: {time.monotonic() - before:.1f} s" + (f", {told}" if told else ""), flush=True)
+        print(f"{name}: {time.monotonic() - before:.1f} s{few}" + (f", {told}" if told else ""), flush=True)
 
 
 if __name__ == "__main__":

@@ -7,10 +7,10 @@ marked with tells exactly its commits.
 Then stores without tag pages are given some by `rqm migrate`, which is killed again and again. Each holds what it held, with tag pages or
 without. It has them once `migrated` is printed.
 
-    python3 tests/kill.py [--program PROGRAM] [--seed N] [--rounds N]
+    python3 tests/kill.py [--program PROGRAM] [--seed N] [--rounds N] [--frames F]
 
 A write that the system cuts off leaves a part of a record at the log's end. It was acknowledged to nobody, and the next server cuts
-it off. How often that came is said.
+it off. How often that came is said. With few frames it is also said how often a request found too few of them.
 """
 import argparse
 import itertools
@@ -23,47 +23,67 @@ from concurrent.futures import ThreadPoolExecutor
 from contextlib import contextmanager
 
 from cases import built
-from server import LONGEST, Server, UnknownClient, base_of, everything, first_line, has_base, raises, serving, store, torn_end
+from server import LONGEST, Connection, Server, UnknownClient, base_of, everything, first_line, has_base, raises, serving, store, torn_end
 
 sys.dont_write_bytecode = True
-from rqm import Full  # noqa: E402, where `server` finds it
+from rqm import REFUSED, Full, PoolFull  # noqa: E402, where `server` finds them
 
 GROUPS = 4
 
 
+class Counting(Connection):
+    """A connection that notes each request that found too few frames, and is made again."""
+
+    def __init__(self, port, without_frames):
+        super().__init__(port, timeout=LONGEST)
+        self.without_frames = without_frames
+
+    def asked(self, kind, fields):
+        answer, told = super().asked(kind, fields)
+        if answer == REFUSED and told[:1] == bytes([PoolFull.number]):
+            self.without_frames.append(kind)
+        return answer, told
+
+
 class Load:
     """Each group has one sender, whose messages come in order, tagged 1 and on. It has one mover, which receives them and sends them again
-    for another group, in one transaction. Both mark a client of their own with the tag, in the same transaction."""
+    for another group, in one transaction. Both mark a client of their own with the tag, in the same transaction. Senders, and clients,
+    that follow one another stand so many numbers apart: from 15 on, each on a page of its own."""
 
-    def __init__(self):
+    def __init__(self, apart=1):
+        self.apart = apart
         # the last tag of each sender that is known to be committed, the last of each group that is known to be moved, and the next that has
         # to come out behind that
         self.sent, self.moved, self.next_out = [0] * GROUPS, [0] * GROUPS, [1] * GROUPS
         self.lost = []  # connections that ended before their work
+        self.without_frames = []  # kinds of requests that found too few
         self.rest = 0  # for how many seconds each rests behind a transaction
 
+    def connected(self, server):
+        return Counting(server.port, self.without_frames)
+
     def send(self, server, group):
-        with server.connect() as connection:
+        with self.connected(server) as connection:
             while True:
                 tag = self.sent[group] + 1
                 try:
                     with connection.transaction() as transaction:
-                        transaction.mark(group, tag)
-                        transaction.send(group, tag, body_of(group, tag))
+                        transaction.mark(self.apart * group, tag)
+                        transaction.send(self.apart * group, tag, body_of(group, tag))
                     self.sent[group] = tag
                     time.sleep(self.rest)
                 except Full:
                     time.sleep(0.001)
 
     def move(self, server, group):
-        with server.connect() as connection:
+        with self.connected(server) as connection:
             while True:
                 try:
                     with connection.transaction() as transaction:
-                        message = transaction.receive_from(group)
+                        message = transaction.receive_from(self.apart * group)
                         if message:
-                            transaction.send(GROUPS + group, message.tag, message.body)
-                            transaction.mark(GROUPS + group, message.tag)
+                            transaction.send(self.apart * (GROUPS + group), message.tag, message.body)
+                            transaction.mark(self.apart * (GROUPS + group), message.tag)
                     if message:
                         self.moved[group] = message.tag
                 except Full:
@@ -91,19 +111,19 @@ class Load:
     def look(self, server, is_last=False):
         """Looks what the store holds: nothing acknowledged is missing, and the one commit of each sender and each mover that was not
         answered is there or not. Their clients tell the same. What was moved comes out in order and once; at last, all does."""
-        with server.connect() as connection:
+        with self.connected(server) as connection:
             for group in range(GROUPS):
-                last = connection.last_tag(group)
+                last, marked = connection.last_tag(self.apart * group), connection.client_tag(self.apart * group)
                 assert last.tag == last.sent and last.tag in (self.sent[group], self.sent[group] + 1), (last, self.sent)
                 self.sent[group] = last.tag
-                assert connection.client_tag(group) == (last.tag, last.tag), (connection.client_tag(group), last)
-                moved = connection.client_tag(GROUPS + group)
+                assert marked == (last.tag, last.tag), (marked, last)
+                moved = connection.client_tag(self.apart * (GROUPS + group))
                 assert moved.tag == moved.count and moved.tag in (self.moved[group], self.moved[group] + 1), (moved, self.moved)
                 self.moved[group] = moved.tag
-                self.drain(connection, GROUPS + group, group)
+                self.drain(connection, self.apart * (GROUPS + group), group)
                 assert self.next_out[group] == moved.tag + 1, (self.next_out, moved)
                 if is_last:
-                    self.drain(connection, group, group)
+                    self.drain(connection, self.apart * group, group)
                     assert self.next_out[group] == last.tag + 1, (self.next_out[group], last)
             if is_last:
                 assert everything(connection) == {}
@@ -127,10 +147,10 @@ def body_of(group, tag):
 class Kills:
     """A store, and how often a server on it was killed."""
 
-    def __init__(self, program, folder, seed):
+    def __init__(self, program, folder, seed, apart=1):
         self.program, self.folder = program, folder
         self.random = random.Random(seed)
-        self.load = Load()
+        self.load = Load(apart)
         self.kills = self.torn = self.checkpoints = self.cut_off = self.based = self.beside = 0
 
     @contextmanager
@@ -186,7 +206,7 @@ class Kills:
 
     def kill_at_start(self, number=signal.SIGKILL):
         """Ends a server that has hardly begun to open the store."""
-        command = [self.program, "serve", str(self.folder), "--port", "0"]
+        command = [self.program, "serve", str(self.folder), "--port", "0", *Server.frames]
         opening = subprocess.Popen(command, stdout=subprocess.DEVNULL, stderr=subprocess.DEVNULL)
         time.sleep(self.random.uniform(0, 0.05))
         opening.send_signal(number)
@@ -282,17 +302,21 @@ def main():
     words.add_argument("--program", help="a program that was built elsewhere")
     words.add_argument("--seed", type=int, default=0, help="from which the moments are drawn")
     words.add_argument("--rounds", type=int, default=20, help="how often the server is killed")
+    words.add_argument("--frames", help="in how many frames servers run")
     chosen = words.parse_args()
+    Server.frames = ("--frames", chosen.frames) if chosen.frames else ()
     program = built(chosen.program, "rqm")
     before = time.monotonic()
-    with store(program, 1, 400, 1) as folder:
-        kills = Kills(program, folder, chosen.seed)
+    apart, pages = (15, 2 * GROUPS) if chosen.frames else (1, 1)
+    with store(program, pages, 400, pages) as folder:
+        kills = Kills(program, folder, chosen.seed, apart)
         for number in range(chosen.rounds):
             kills.round(number)
         with kills.running() as server:
             kills.load.look(server, is_last=True)
-    sent = sum(kills.load.sent)
-    assert sent > 10 * chosen.rounds, sent
+    sent, refused = sum(kills.load.sent), len(kills.load.without_frames)
+    assert sent > (2 if chosen.frames else 10) * chosen.rounds, sent
+    assert refused or chosen.frames != "8" or chosen.rounds < 20, "8 frames were enough"
     assert kills.checkpoints and kills.cut_off and kills.based and kills.beside or chosen.rounds < 100, vars(kills)
     migrations, lives = Migrations(program, chosen.seed), 0
     # (few are killed in the last sync: where none was, there are more lives)
@@ -304,7 +328,8 @@ def main():
     seconds = time.monotonic() - before
     made = f"{kills.checkpoints} checkpoints, {kills.cut_off} cut off, {kills.beside} servers that made some, {kills.based} starts behind a Base"
     cut = f"{migrations.cut_off} cut off, {migrations.based} of these behind their Base, {migrations.grown} behind the tag pages"
-    print(f"killed {kills.kills} times among {sent} sends, {kills.torn} torn ends cut, {made}: {seconds:.0f} s")
+    few = f" in {chosen.frames} frames, which were too few {refused} times" if chosen.frames else ""
+    print(f"killed {kills.kills} times among {sent} sends{few}, {kills.torn} torn ends cut, {made}: {seconds:.0f} s")
     print(f"{migrations.made} migrations made, {cut}")
 
 

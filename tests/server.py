@@ -30,7 +30,7 @@ from shim import failing
 sys.dont_write_bytecode = True
 sys.path.insert(0, str(TOP / "clients" / "python"))
 from rqm import (  # noqa: E402
-    ClientBusy, Closed, Connection, DiskWrite, Failed, Full, Lost, Passing, ReceiverBusy, SenderBusy, TooManyTransactions,
+    ClientBusy, Closed, Connection, DiskWrite, Failed, Full, Lost, Passing, PoolFull, ReceiverBusy, SenderBusy, TooManyTransactions,
     UnknownClient, UnknownSender, UnknownTransaction,
 )  # fmt: skip
 
@@ -188,6 +188,8 @@ class Server:
     """`rqm serve` on a folder. It may open so many files, and make none longer than so many bytes. Its environment may have more words,
     and its standard input may be another one."""
 
+    frames = ()  # words that say in how many frames all servers run, where a program of tests is told that
+
     def __init__(self, program, folder, *words, files=None, longest=None, environment=None, stdin=None):
         def limit():
             if files:
@@ -196,7 +198,7 @@ class Server:
                 signal.signal(signal.SIGXFSZ, signal.SIG_IGN)  # a write that goes past it is refused
                 resource.setrlimit(resource.RLIMIT_FSIZE, (longest, longest))
 
-        command = [program, "serve", str(folder), "--port", "0", *map(str, words)]
+        command = [program, "serve", str(folder), "--port", "0", *map(str, (*self.frames, *words))]
         self.told = tempfile.TemporaryFile()  # on standard error
         words = dict(os.environ, **(environment or {}))
         self.process = subprocess.Popen(
@@ -639,21 +641,33 @@ def until_it_rests(syncs):
 
 def few_frames(program, _):
     """A server with 8 frames keeps as many pages in memory, and one with a frame for each page all of them. Both serve transactions that
-    change more pages than 8."""
-    pages, taken = 8000, []
+    change more pages than 8. A request that finds too few frames finds them when it is made again at once."""
+    pages, taken, refused = 8000, [], []
     with store(program, directory=20, cells=pages) as folder:
         for frames in (8, 67585):
             with serving(program, folder, "--frames", frames) as server, server.connect() as connection:
                 taken.append(resident(server.process.pid))
-                connection.patience = LONGEST  # a machine that is held up may force late
+                connection.patience = 0
+                before = len(refused)
                 with connection.transaction() as sending:
                     for sender in range(0, 300, 15):
-                        sending.send(sender, frames, b"%d" % sender)
+                        in_frames(refused, lambda: sending.send(sender, frames, b"%d" % sender))
                 with connection.transaction() as receiving:
                     for sender in range(0, 300, 15):
-                        assert receiving.receive_from(sender) == (sender, frames, b"%d" % sender)
+                        received = in_frames(refused, lambda: receiving.receive_from(sender))
+                        assert received == (sender, frames, b"%d" % sender)
+                assert (len(refused) > before) == (frames == 8), refused
     assert taken[1] - taken[0] > pages * 3000, taken
-    return f"{taken[0] >> 20} and {taken[1] >> 20} MB"
+    return f"{taken[0] >> 20} and {taken[1] >> 20} MB, {len(refused)} times PoolFull"
+
+
+def in_frames(refused, call):
+    """What a call answers, which is made once more where it finds too few frames: that is noted."""
+    try:
+        return call()
+    except PoolFull as refusal:
+        refused.append(refusal)
+        return call()
 
 
 def resident(process):

@@ -1,3 +1,4 @@
 pub mod Heard
 pub mod Reached
 pub mod Waiting
+pub mod Wanting

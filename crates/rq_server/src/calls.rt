@@ -1,9 +1,11 @@
 //! What a worker calls the store by.
-ghost use Rattle.std.specs.Prelude.{◌≡◌, ◌≤◌};
+ghost use Rattle.std.specs.Prelude.{◌≡◌, ◌≤◌, false, true};
 ghost use Rattle.rq_serving.specs.Carried.{IsForce};
 ghost use Rattle.rq_server.specs.Reached.{IsReached};
+ghost use Rattle.rq_server.specs.Wanting.{are_frames_wanting};
 
 use crate::notices::Notices;
+use crate::noting::NotingSteps;
 use crate::turns::Turns;
 use rq_model::txn::Lsn;
 use rq_shared::mark::{Mark, MarkPass};
@@ -38,7 +40,7 @@ impl<'a> MarkReader<'a> {
 /// What a worker calls the store by: its steps, the mark, its turns, and what it tells the other threads.
 #[derive(Drop)]
 pub(crate) struct Calls<'a, S: Steps> {
-    pub(crate) steps: S,
+    pub(crate) steps: NotingSteps<S>,
     reader: MarkReader<'a>,
     pub(crate) turns: &'a Turns,
     notices: &'a Notices,
@@ -50,9 +52,11 @@ impl<'a, S: Steps> Calls<'a, S> {
         reader: MarkReader<'a>,
         turns: &'a Turns,
         notices: &'a Notices,
-    ) -> Self {
+    ) -> Self
+        requires { are_frames_wanting (S.made steps) ≡ false }
+    {
         Calls {
-            steps,
+            steps: NotingSteps::new(steps),
             reader,
             turns,
             notices,
@@ -61,7 +65,7 @@ impl<'a, S: Steps> Calls<'a, S> {
 
     /// Forces, which frees the memory of what is buffered.
     pub(crate) fn force<R: Wait>(&mut self, rt: &R)
-        ensures forced { IsForce S.made S.forced S.told self.old.steps self.new.steps }
+        ensures forced { IsForce S.made S.forced S.told self.old.steps.inner self.new.steps.inner }
         ensures same { self.new.reader ≡ self.old.reader }
     {
         let turns = self.turns;
@@ -69,9 +73,22 @@ impl<'a, S: Steps> Calls<'a, S> {
         self.make_force();
     }
 
+    /// Forces, where frames were wanting for a call since the last force. Who makes that call again finds them.
+    pub(crate) fn force_for_frames<R: Wait>(&mut self, rt: &R)
+        ensures wanting { are_frames_wanting (S.made self.old.steps.inner) ≡ true
+            → IsForce S.made S.forced S.told self.old.steps.inner self.new.steps.inner }
+        ensures enough { are_frames_wanting (S.made self.old.steps.inner) ≡ false → self.new ≡ self.old }
+        ensures none { are_frames_wanting (S.made self.new.steps.inner) ≡ false }
+        ensures same { self.new.reader ≡ self.old.reader }
+    {
+        if self.steps.lacks_frames() {
+            self.force(rt);
+        }
+    }
+
     /// Forces, where the log is not forced as far as this once no other worker forces.
     pub(crate) fn force_up_to<R: Wait>(&mut self, rt: &R, lsn: Lsn)
-        ensures reached { IsReached S.made S.forced S.told lsn self.new.reader.seat.saw self.old.steps self.new.steps }
+        ensures reached { IsReached S.made S.forced S.told lsn self.new.reader.seat.saw self.old.steps.inner self.new.steps.inner }
         ensures grown { self.old.reader.seat.saw ≤ self.new.reader.seat.saw }
     {
         let turns = self.turns;
@@ -82,7 +99,7 @@ impl<'a, S: Steps> Calls<'a, S> {
     }
 
     fn make_force(&mut self)
-        ensures forced { IsForce S.made S.forced S.told self.old.steps self.new.steps }
+        ensures forced { IsForce S.made S.forced S.told self.old.steps.inner self.new.steps.inner }
         ensures same { self.new.reader ≡ self.old.reader }
     {
         let stamped = self.steps.force();
@@ -101,7 +118,7 @@ impl<'a, S: Steps> Calls<'a, S> {
     /// Waits for the force of another worker, where the log is not forced as far as this, but not for long. Forces where that one
     /// did not reach as far, or none came.
     pub(crate) fn await_force<R: Wait>(&mut self, rt: &R, lsn: Lsn)
-        ensures reached { IsReached S.made S.forced S.told lsn self.new.reader.seat.saw self.old.steps self.new.steps }
+        ensures reached { IsReached S.made S.forced S.told lsn self.new.reader.seat.saw self.old.steps.inner self.new.steps.inner }
         ensures grown { self.old.reader.seat.saw ≤ self.new.reader.seat.saw }
     {
         let seen = self.notices.forces();

@@ -8,10 +8,8 @@ use rq_workers::gate::Gate;
 use std::snapshot::Snapshot;
 use std::sync::Wait;
 
-/// How many milliseconds lie between two forces of what nobody waits for. Until then its pages keep their frames.
-const FORCE_MILLIS: u64 = 250;
-
-/// How many milliseconds lie between two rounds of page writes, or two looks at the length of a log.
+/// How many milliseconds lie between two forces of what nobody waits for, two rounds of page writes, or two looks at the length of a
+/// log.
 const ROUND_MILLIS: u64 = 1000;
 
 /// In how many parts a round of page writes is made, with a pause between them.
@@ -73,7 +71,7 @@ impl<'a, R: Wait> LogPace<'a, R> {
     // Until a round was made since the last force, or the server ends.
     fn rest(&self) {
         for _ in self.rt.forever() {
-            self.notices.pause(self.rt, FORCE_MILLIS);
+            self.notices.pause(self.rt, ROUND_MILLIS);
             if self.notices.has_ended() || self.notices.rounds() != self.seen {
                 return;
             }

@@ -12,6 +12,7 @@ mod door;
 mod gates;
 mod length;
 mod notices;
+mod noting;
 mod rounds;
 mod server;
 mod steps;

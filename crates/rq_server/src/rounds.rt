@@ -5,6 +5,7 @@ ghost use Rattle.slab.specs.Slab.{get};
 ghost use Rattle.rq_server.specs.Heard.{AreHeard};
 ghost use Rattle.rq_server.specs.Reached.{EndsForced};
 ghost use Rattle.rq_server.specs.Waiting.{AreUpTo, IsLast, awaited, awaited_at, tokens};
+ghost use Rattle.rq_server.specs.Wanting.{are_frames_wanting};
 
 use crate::calls::Calls;
 use crate::connection::Connection;
@@ -301,11 +302,13 @@ impl Connections {
     }
 
     // Carries out what was asked, and forces once for the commits of all that left it to this turn. True where it leaves that too, or
-    // nothing is to be forced. A call that is held is made again behind a force, which frees memory.
+    // nothing is to be forced. A call that is held is made again behind a force, which frees memory. Behind each call that was refused
+    // for want of frames there is a force, before that is answered.
     fn carry_out_in_turn<S: Steps, R: Wait>(&mut self, rt: &R, calls: &mut Calls<'_, S>) -> bool
-        ensures forced { result ≡ false → AreUpTo calls.new.reader.seat.saw (awaited self.new) ⊎ EndsForced S.made S.forced S.told calls.new.steps }
+        ensures forced { result ≡ false → AreUpTo calls.new.reader.seat.saw (awaited self.new) ⊎ EndsForced S.made S.forced S.told calls.new.steps.inner }
         ensures left { result ≡ true → AreUpTo calls.new.reader.seat.saw (awaited self.new) ⊎ (0 < calls.old.turns.now.most_left) }
         ensures grown { calls.old.reader.seat.saw ≤ calls.new.reader.seat.saw }
+        ensures frames { are_frames_wanting (S.made calls.new.steps.inner) ≡ false }
     {
         let turns = calls.turns;
         let mut owed = turns.take(rt);
@@ -314,6 +317,7 @@ impl Connections {
             calls.force(rt);
             self.go_on(rt, &mut calls.steps);
         }
+        calls.force_for_frames(rt);
         let forced = calls.forced();
         let is_due = turns.is_due(&mut owed, forced, self.last_awaited(), turns.is_awaited());
         if is_due {

@@ -1,5 +1,5 @@
 //! The threads of a server.
-ghost use Rattle.std.specs.Prelude.{◌≡◌, IfOk};
+ghost use Rattle.std.specs.Prelude.{◌≡◌, [], IfOk};
 ghost use Rattle.std.specs.Thread.{IsSend, IsSync};
 
 use crate::calls::{Calls, MarkReader};
@@ -390,12 +390,14 @@ fn both(served: Option<u64>, more: Option<u64>) -> Option<u64> {
     Some(served?.saturating_add(more?))
 }
 
-// The steps of a caller.
+// The steps of a caller, by which nothing was called yet.
 fn steps_of<'a, P: PageDevice + Drop, L: LogDevice + Drop, B: Level, G: Sharing, R: Wait>(
     rt: &'a R,
     lock: &'a EngineLock<P, L, B, G>,
     caller: Caller<'a, G>,
-) -> ServerSteps<'a, P, L, B, G, R> {
+) -> ServerSteps<'a, P, L, B, G, R>
+    ensures { result.inner.made.value ≡ [] }
+{
     let Caller { common, pass, seat } = caller;
     let steps = SharedSteps::new(rt, lock, pass, &common.mark, seat, DropStamps::new());
     ServerSteps::new(steps, rt, &common.notices)

@@ -1,5 +1,5 @@
 //! The step interface of a server's thread: calls of a shared engine, whose audit is taken and dropped.
-ghost use Rattle.std.specs.Prelude.{length};
+ghost use Rattle.std.specs.Prelude.{◌≡◌, length};
 
 use crate::notices::Notices;
 use rq_disk::{LogDevice, PageDevice};
@@ -38,7 +38,9 @@ impl<'a, P: PageDevice + Drop, L: LogDevice + Drop, B: Level, G: Sharing, R: Wai
         inner: SharedSteps<'a, P, L, B, G, R, DropStamps>,
         rt: &'a R,
         notices: &'a Notices,
-    ) -> Self {
+    ) -> Self
+        ensures { result.inner ≡ inner.entry }
+    {
         ServerSteps {
             inner,
             rt,

@@ -12,7 +12,7 @@ returns-clause-forced g c e = elim c.if-is_due.branch [
         let saw = w.force_up_to.new.self.reader.seat.saw in
         let reached : c.is_due-is_due.new.owed.lsn ≤ saw = let at = ap (λ (o : Owed). o.lsn) w.deref.ensures in let low = seen.0 in omega (arith, w.lsn.ensures, at, low) in
         rw w.calls-is (inl (owed_reaches (awaited c.if-is_any_held.self) c.last_awaited.result c.deref_mut.result.now.lsn c.is_due-is_due.new.owed.lsn saw c.last_awaited.ensures c.is_due-is_due.ensures.owed reached))
-    | inr made ↦ rw w.calls-is (inr (c.forced-forced.new.self.steps, made.1))
+    | inr made ↦ rw w.calls-is (inr (c.forced-forced.new.self.steps.inner, made.1))
   ]
   | else-is_due w ↦ absurd (let no = w.if-is_due.false in let h = rw no at e in cc h)
 ]
