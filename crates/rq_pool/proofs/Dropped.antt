@@ -123,14 +123,8 @@ module _ (old new : List Held) (gone : IsDropped old new) where
       is = is.is;
     }
 
--- a page that is not the superblock's may give way, where none behind that is fixed and all are forced
-pub loose_behind : (z : Sizes) (images : List (List ℕ)) (changed : List Bool) (places : List (Option ℕ)) (frames : List Held) (pages : List (List ℕ)) (forced i : ℕ) → AreTied images changed places frames pages → IsFirstFixed frames → length images ≡ page_count z
-    → ((p : ℕ) → p < page_count z → lsn_of (image_at images p) ≤ forced) → ((q : ℕ) → 1 ≤ q → IsFixed frames q → ⊥) → i < length frames → 1 ≤ i → IsLoose images forced frames i
-loose_behind z images changed places frames pages forced i tied first count lsns loose lt behind = record {
-  within = lt;
-  free = by (fixed_at frames i) refl;
-  lsn = lsns (page_at frames i) (let high = back.high in let same = tied.count in omega (arith, high, same, count));
-} where
+-- where none behind the superblock is fixed, the page in another frame than its own is not
+module _ (images : List (List ℕ)) (changed : List Bool) (places : List (Option ℕ)) (frames : List Held) (pages : List (List ℕ)) (i : ℕ) (tied : AreTied images changed places frames pages) (first : IsFirstFixed frames) (loose : (q : ℕ) → 1 ≤ q → IsFixed frames q → ⊥) (lt : i < length frames) (behind : 1 ≤ i) where
   back : HasPage places frames i
   back = tied.back i lt
 
@@ -143,3 +137,15 @@ loose_behind z images changed places frames pages forced i tied first count lsns
   by : (b : Bool) → fixed_at frames i ≡ b → fixed_at frames i ≡ false
   by false e = e
   by true e = absurd (loose (page_at frames i) low (record { at = i; within = lt; is = refl; fixed = e }))
+
+  pub unfixed : fixed_at frames i ≡ false
+  unfixed = by (fixed_at frames i) refl
+
+-- so it may give way, where all are forced
+pub loose_behind : (z : Sizes) (images : List (List ℕ)) (changed : List Bool) (places : List (Option ℕ)) (frames : List Held) (pages : List (List ℕ)) (forced i : ℕ) → AreTied images changed places frames pages → IsFirstFixed frames → length images ≡ page_count z
+    → ((p : ℕ) → p < page_count z → lsn_of (image_at images p) ≤ forced) → ((q : ℕ) → 1 ≤ q → IsFixed frames q → ⊥) → i < length frames → 1 ≤ i → IsLoose images forced frames i
+loose_behind z images changed places frames pages forced i tied first count lsns loose lt behind = record {
+  within = lt;
+  free = unfixed images changed places frames pages i tied first loose lt behind;
+  lsn = lsns (page_at frames i) (let high = (tied.back i lt).high in let same = tied.count in omega (arith, high, same, count));
+}

@@ -9,6 +9,7 @@ pub mod Indexes
 pub mod Over
 pub mod Rewritten
 pub mod Dropped
+pub mod Exchanged
 pub mod Growths
 pub mod KeptUp
 pub mod Fetched

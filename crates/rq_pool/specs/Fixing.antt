@@ -1,5 +1,5 @@
 -- How pages that are wanted at once are fixed in frames: first those that stand in some, then each other one.
-use Rattle.std.specs.Prelude.{◌≡◌, ◌⊎◌, ℕ, ◌+◌, ◌<◌, ◌≤◌, Bool, true, false, List, [], ◌∷◌, ◌++◌, length, slice_index_or, slice_set}
+use Rattle.std.specs.Prelude.{◌≡◌, ◌⊎◌, ℕ, ◌+◌, ◌-◌, ◌^◌, ◌<◌, ◌≤◌, Bool, true, false, List, [], ◌∷◌, ◌++◌, length, slice_index_or, slice_set}
 use Rattle.rq_model.specs.declared.refusal.Refusal.{Refusal}
 use Rattle.rq_model.specs.declared.refusal.Refusal.TheVariants as why
 use Rattle.rq_model.specs.declared.refusal.Damage.TheVariants as damage
@@ -50,6 +50,11 @@ NotBrought g forced page why.DiskWrite old new = (IsFramed old.frames page → �
 NotBrought g forced page (why.Damaged (damage.Page n)) old new = (IsFramed old.frames page → ⊥) × (n ≡ page)
     × (g.honest new.device → ⊥) × (g.faults new.device ≡ g.faults old.device)
 NotBrought g forced page _ old new = ⊥
+
+-- why it was not, where some frame has one that may
+abbrev pub NotBroughtIn : {P : Type 0} → Ghosts P → ℕ → Refusal → Pooled P → Pooled P → Type 0
+NotBroughtIn g page why.PoolFull old new = ⊥
+NotBroughtIn g page e old new = NotBrought g (2 ^ 64 - 1) page e old new
 
 -- ---- all of them
 

@@ -10,6 +10,8 @@ pub mod Counting
 pub mod Tabled
 pub mod Moments
 pub mod Paths
+pub mod OnWay
+pub mod Standing
 pub mod Undos
 pub mod Begun
 pub mod Lefts

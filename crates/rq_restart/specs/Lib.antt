@@ -2,6 +2,7 @@ pub mod Formatting
 pub mod Repeating
 pub mod Restarting
 pub mod Underway
+pub mod Standing
 pub mod Opens
 pub mod Ended
 pub mod Past

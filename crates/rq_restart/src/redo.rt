@@ -60,26 +60,25 @@ pub(crate) fn repeat_history<P: PageDevice + Drop, L: LogDevice, B: Level>(
     reader: &mut LogReader<L>,
     levels: &mut StoreLevels<B>,
 ) -> Result<Analysis, Refusal>
-    requires framed { AreAllFramed pages.old }
+    requires held { NoneHeld pages.old.frames }
+    requires more { 1 < length pages.old.frames }
     requires none_read { reader.old.records ≡ [] }
     requires untouched { reader.old.device ≡ reader.old.first }
     ensures found { IfOk result (λ analysis. IsAnalysisOf analysis reader.new.records) }
-    ensures repeated { OnOk result (L.honest reader.new.device
-        → Repeats pages.old.sizes reader.new.records (paged pages.old) (paged pages.new)) }
-    ensures counted { OnOk result (ArePagesCounted pages.old.sizes (length reader.new.records) (paged pages.old)
-        → ArePagesCounted pages.old.sizes (length reader.new.records) (paged pages.new)) }
+    ensures follow { OnOk result (L.honest reader.new.device → FollowAll reader.new.records) }
+    ensures repeated { OnOk result (P.honest pages.new.device → L.honest reader.new.device
+        → IsRepeatedOn pages.old.sizes [] (paged pages.old) reader.new.records (paged pages.new)) }
     ensures whole { OnOk result (L.honest reader.new.device
         → EndsShort reader.new.records reader.new.left (L.seen reader.new.first)) }
-    ensures cause { OnOk result (L.faults reader.new.device ≡ L.faults reader.new.first) }
-    ensures stopped { IfErr result (λ e. L.honest reader.new.device → IsStoppedBehind L.LogDevice pages.old.sizes
-        (paged pages.old) e reader.new.first reader.new.device) }
-    ensures fails { IfErr result (λ e. FailsWith e (L.faults reader.new.first) (L.faults reader.new.device)) }
+    ensures stopped { IfErr result (λ e. P.honest pages.new.device → L.honest reader.new.device → IsStoppedBehind L.LogDevice
+        pages.old.sizes (paged pages.old) e reader.new.first reader.new.device) }
     ensures read { IsRead L.LogDevice reader.new.first reader.new.device }
     ensures first { reader.new.first ≡ reader.old.first }
-    ensures marked { AreMarked pages.old pages.new }
-    ensures sizes { pages.new.sizes ≡ pages.old.sizes }
-    ensures device { pages.new.device ≡ pages.old.device }
-    ensures frames { pages.new.frames ≡ pages.old.frames }
+    ensures goes_on { ReadsOn P.PageDevice L.LogDevice pages.old reader.old result pages.new reader.new }
+    ensures way { P.honest pages.new.device → L.honest reader.new.device → (f : Found P L)
+        → StandsRead P.PageDevice L.LogDevice f pages.old reader.old
+        → OnOk result (StandsRead P.PageDevice L.LogDevice f pages.new reader.new)
+        × OnErr result (KeepsStore P.PageDevice L.LogDevice f pages.new.device reader.new.device) }
 {
     let mut analysis = Analysis::new(alloc);
     reader.shows_read();
@@ -129,24 +128,26 @@ fn check_and_redo<P: PageDevice + Drop, B: Level>(
     puts_back: bool,
     record: &Record,
 ) -> Result<(), Refusal>
-    requires framed { AreAllFramed pages.old }
+    requires held { NoneHeld pages.old.frames }
+    requires more { 1 < length pages.old.frames }
     requires plain { is_base «record».now ≡ false }
     ensures found { OnOk result ((older : List AnyRecord) → lsn ≡ length older + 1 → IsAnalysisOf analysis.old older
         → length (spelled («record».now ∷ older)) < 2 ^ 64 → IsAnalysisOf analysis.new («record».now ∷ older)) }
-    ensures repeated { OnOk result ((older : List AnyRecord) → lsn ≡ length older + 1
+    ensures follows { OnOk result ((older : List AnyRecord) → lsn ≡ length older + 1
+        → IsAnalysisOf analysis.old older → FollowAll older → (IsTrue puts_back ↔ PutsBack analysis.old.open_work «record».now)
+        → FollowsRules older «record».now) }
+    ensures repeated { OnOk result (P.honest pages.new.device → (older : List AnyRecord) → lsn ≡ length older + 1
         → IsAnalysisOf analysis.old older → FollowAll older → (IsTrue puts_back ↔ PutsBack analysis.old.open_work «record».now)
         → IsRecordRedone pages.old.sizes older «record».now (paged pages.old) (paged pages.new)) }
-    ensures written { OnOk result (Redoes (told_by «record».now) lsn (image_in pages.old.images)
-        (image_in pages.new.images)) }
-    ensures sound { OnOk result (MayRedo pages.old.sizes (image_in pages.old.images) lsn «record».now) }
-    ensures not { IfErr result (λ e. (older : List AnyRecord) → lsn ≡ length older + 1
+    ensures not { IfErr result (λ e. P.honest pages.new.device → (older : List AnyRecord) → lsn ≡ length older + 1
         → IsAnalysisOf analysis.old older → FollowAll older → (IsTrue puts_back ↔ PutsBack analysis.old.open_work «record».now)
         → NotRepeated pages.old.sizes older «record».now (paged pages.old) e) }
-    ensures err { IfErr result (λ e. NamesNoDevice e) }
-    ensures marked { AreMarked pages.old pages.new }
-    ensures sizes { pages.new.sizes ≡ pages.old.sizes }
-    ensures device { pages.new.device ≡ pages.old.device }
-    ensures frames { pages.new.frames ≡ pages.old.frames }
+    ensures same { reader.new ≡ record reader.old { device = reader.new.device } }
+    ensures read { IsRead L.LogDevice reader.old.device reader.new.device }
+    ensures goes_on { ReadsOn P.PageDevice L.LogDevice pages.old reader.old result pages.new reader.new }
+    ensures way { P.honest pages.new.device → L.honest reader.new.device → (f : Found P L)
+        → StandsRead P.PageDevice L.LogDevice f pages.old reader.old
+        → KeepsStore P.PageDevice L.LogDevice f pages.new.device reader.new.device }
 {
     let reads = can_be_read(levels, record);
     if !analysis.may_take(reads, puts_back, record) || !may_redo(pages, lsn, record) {
