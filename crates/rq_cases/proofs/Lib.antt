@@ -24,3 +24,4 @@ mod Crashes
 mod Closes
 mod Replies
 mod Bases
+mod Leveled

@@ -22,4 +22,5 @@ pub mod Migrations
 pub mod Closes
 pub mod Replies
 pub mod Bases
+pub mod Leveled
 pub mod Cases

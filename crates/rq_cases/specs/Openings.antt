@@ -1,5 +1,5 @@
 -- What a restart has checked, what it leaves of a log, and why and where it was refused: over the worked run.
-use Rattle.std.specs.Prelude.{◌≡◌, ◌≢◌, ℕ, ◌+◌, ◌^◌, ◌<◌, List, None, [], ◌∷◌, min, ◌++◌, length, take, false, true}
+use Rattle.std.specs.Prelude.{◌≡◌, ◌≢◌, ℕ, ◌+◌, ◌^◌, ◌<◌, List, None, ◌∷◌, min, ◌++◌, length, take, false, true}
 use Rattle.rq_model.specs.declared.record.Record.{Record}
 use Rattle.rq_model.specs.declared.record.Record.TheVariants.{Commit, Restart}
 use Rattle.rq_model.specs.declared.refusal.Refusal.{Refusal}

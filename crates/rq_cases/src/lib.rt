@@ -6,6 +6,7 @@ ghost use Rattle.rq_cases.specs.Courses.{NoneIsJudged};
 ghost use Rattle.rq_cases.specs.Crashes.{CrashesAreJudged};
 ghost use Rattle.rq_cases.specs.Devices.{DevicesAreJudged};
 ghost use Rattle.rq_cases.specs.Histories.{HistoriesGoOn};
+ghost use Rattle.rq_cases.specs.Leveled.{LevelsAreJudged};
 ghost use Rattle.rq_cases.specs.Migrations.{MigrationsAreJudged};
 ghost use Rattle.rq_cases.specs.Worlds.{HeadlinesAreJudged};
 
@@ -64,6 +65,11 @@ pub fn crashes_are_judged()
 /// Histories with migrations: each legal or refused as it should be, what the store has then, and what a crash may leave.
 pub fn migrations_are_judged()
     ensures { MigrationsAreJudged }
+{}
+
+/// Plans of levels that are as they should be: a receive, a slot write that is taken back, and a mark.
+pub fn levels_are_judged()
+    ensures { LevelsAreJudged }
 {}
 
 /// The worked cases that rest on no law: each field says what of.
