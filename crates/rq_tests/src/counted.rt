@@ -16,8 +16,8 @@ use std::alloc::{AllocError, Global};
 use std::sync::Arc;
 use std::sync::atomic::{AtomicU64, Ordering};
 
-/// How often levels were asked to plan, to take back, to redo and to note something, and what an end answers; and how often they
-/// were dropped.
+/// How often levels were asked to plan, to take back, to redo and to note something, what an end answers, whether they read a deed,
+/// and what they want; and how often they were dropped.
 #[derive(Drop)]
 pub struct Asks {
     plans: AtomicU64,
@@ -25,10 +25,12 @@ pub struct Asks {
     redos: AtomicU64,
     notes: AtomicU64,
     outcomes: AtomicU64,
+    reads: AtomicU64,
+    wants: AtomicU64,
     drops: AtomicU64,
 }
 
-/// How often that was.
+/// How often that was. How often a level is asked what it wants is its own affair, so that is whether it was.
 #[derive(Clone, Copy, PartialEq, Eq)]
 pub struct Counts {
     pub plans: u64,
@@ -36,6 +38,8 @@ pub struct Counts {
     pub redos: u64,
     pub notes: u64,
     pub outcomes: u64,
+    pub reads: u64,
+    pub wants: bool,
     pub drops: u64,
 }
 
@@ -47,6 +51,8 @@ impl Asks {
             redos: AtomicU64::new(0),
             notes: AtomicU64::new(0),
             outcomes: AtomicU64::new(0),
+            reads: AtomicU64::new(0),
+            wants: AtomicU64::new(0),
             drops: AtomicU64::new(0),
         }
     }
@@ -58,6 +64,8 @@ impl Asks {
             redos: self.redos.load(Ordering::SeqCst),
             notes: self.notes.load(Ordering::SeqCst),
             outcomes: self.outcomes.load(Ordering::SeqCst),
+            reads: self.reads.load(Ordering::SeqCst),
+            wants: self.wants.load(Ordering::SeqCst) > 0,
             drops: self.drops.load(Ordering::SeqCst),
         }
     }
@@ -135,6 +143,7 @@ impl Level for Counted {
     }
 
     fn reads(&self, deed: &[u8]) -> bool {
+        self.asks.reads.fetch_add(1, Ordering::SeqCst);
         self.level.reads(deed)
     }
 
@@ -148,6 +157,7 @@ impl Level for Counted {
     }
 
     fn want(&self, op: &Op, given: &Slots) -> Want {
+        self.asks.wants.fetch_add(1, Ordering::SeqCst);
         self.level.want(op, given)
     }
 
@@ -218,6 +228,7 @@ impl Level for Bystander {
     }
 
     fn reads(&self, _deed: &[u8]) -> bool {
+        self.asks.reads.fetch_add(1, Ordering::SeqCst);
         false
     }
 
@@ -231,6 +242,7 @@ impl Level for Bystander {
     }
 
     fn want(&self, _op: &Op, _given: &Slots) -> Want {
+        self.asks.wants.fetch_add(1, Ordering::SeqCst);
         Want::Ready
     }
 

@@ -330,7 +330,7 @@ fn store(alloc: Global) -> Result<(MemPages, MemLog), &'static str> {
     }
 }
 
-// What a level was asked that was dropped once.
+// What a level was asked that was dropped once, and read no deed.
 fn counts(plans: u64, undos: u64, redos: u64, notes: u64, outcomes: u64) -> Counts {
     Counts {
         plans,
@@ -338,8 +338,18 @@ fn counts(plans: u64, undos: u64, redos: u64, notes: u64, outcomes: u64) -> Coun
         redos,
         notes,
         outcomes,
+        reads: 0,
+        wants: false,
         drops: 1,
     }
+}
+
+// The same of one that was asked so often whether it reads a deed, and perhaps what it wants.
+fn reading(counts: Counts, reads: u64, wants: bool) -> Counts {
+    let mut now = counts;
+    now.reads = reads;
+    now.wants = wants;
+    now
 }
 
 #[test]
@@ -363,20 +373,21 @@ fn each_level_is_asked_what_is_its_own(rt: HostRuntime) -> Result<(), Fail> {
     let left = run(rt.alloc(), pages, log, &first, &BEFORE)?;
     assert!(rt; left.is_answered);
     // Two sends, of which one is taken back; four marks, of which one is taken back and three have ends. Thirteen writes are told
-    // behind the opening, and the cell that each send's plan gave back.
+    // behind the opening, and the cell that each send's plan gave back. What is planned or taken back wants slots.
     assert!(rt; first.slots.counts() == counts(0, 0, 0, 1, 0));
-    assert!(rt; first.chains.counts() == counts(2, 1, 0, 61, 2));
-    assert!(rt; first.tags.counts() == counts(4, 1, 0, 61, 3));
+    assert!(rt; first.chains.counts() == reading(counts(2, 1, 0, 61, 2), 0, true));
+    assert!(rt; first.tags.counts() == reading(counts(4, 1, 0, 61, 3), 0, true));
     assert!(rt; first.bystander.counts() == counts(0, 0, 0, 61, 0));
     let Left { pages, log, .. } = left;
     let second = all_asks(rt.alloc()).map_err(|_| "memory")?;
     let crashed = (pages.crash(PageChoice::Synced), log.crash(0, 0));
     let left = run(rt.alloc(), crashed.0, crashed.1, &second, &BEHIND)?;
     assert!(rt; left.is_answered);
-    // Thirteen writes are made again, one is undone, and one takes back the lost mark, behind what the opening tells.
+    // Thirteen writes are made again, one is undone, and one takes back the lost mark, behind what the opening tells. Two ends of
+    // sends and three of marks are read, and the lost mark's is again where it is taken back.
     assert!(rt; second.slots.counts() == counts(0, 1, 15, 1, 0));
-    assert!(rt; second.chains.counts() == counts(0, 0, 0, 47, 0));
-    assert!(rt; second.tags.counts() == counts(0, 1, 0, 47, 0));
+    assert!(rt; second.chains.counts() == reading(counts(0, 0, 0, 47, 0), 2, false));
+    assert!(rt; second.tags.counts() == reading(counts(0, 1, 0, 47, 0), 4, true));
     assert!(rt; second.bystander.counts() == counts(0, 0, 0, 47, 0));
     Ok(())
 }

@@ -1,5 +1,5 @@
-//! Tests of what no script and no list of happenings shows: workers, threads that share a store, sessions with the bytes that a
-//! connection brings, and levels in boxes; numbers and records in bytes; and the queue as plain lists.
+//! Tests of what no script and no list of happenings shows. They are of workers, threads that share a store, and sessions with the
+//! bytes that a connection brings; of levels in boxes, numbers and records in bytes, and the queue as plain lists.
 #![tactic(auto)]
 
 #[cfg(test)]
