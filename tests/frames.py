@@ -4,7 +4,8 @@ and compared with the reference. Then each device call of the running store fail
 one. A call that is refused as DiskRead has changed nothing: made again, it and all behind it answer as if nothing had failed. One that
 is refused as DiskWrite stops the store, which a crash and a restart open again, as it was in front of that call. So they do where the
 machine stops at a device call of a start, of an inverse or of a content. A crash that leaves old images of all pages has the restart
-write many out: each of its device calls fails in turn, and the machine stops at each.
+change more pages than it has frames for, so that pages make way for others and are read again. Each of its device calls fails in turn.
+The machine stops at each, and then in the two restarts behind that. So it goes with a list in which frames are wanting for a start.
 
     python3 tests/frames.py [--program PROGRAM] [--first SEED] [--lists N]
 """
@@ -30,6 +31,14 @@ SIZES = ((20, 2, 0), (7, 3, 0), (40, 2, 2))
 
 TRANSACTIONS = 20
 
+# A list over ten pages, in 8 frames: two starts are PoolFull. It stands for a seed.
+ROW = "five-senders"
+ROW_SIZES = (5, 5, 0)
+ROW_LINES = [
+    b"restart", *5 * [b"begin"], b"start-send 1.1 0 1 a", b"start-send 1.2 15 1 b", b"start-send 1.3 30 1 c", b"start-send 1.4 45 1 d",
+    b"start-send 1.5 60 1 e", *3 * [b"step 1.1 1"], b"finish 1.1 1", b"start-send 1.5 60 1 e", b"force", b"start-send 1.5 60 1 e", b"force",
+]  # fmt: skip
+
 # What shows the store behind its last crash.
 LAST = [b"crash 0 -", b"restart", b"content"]
 
@@ -42,7 +51,7 @@ OLD = b"crash 0 " + SYNCED
 # What has to be met, the usual lists taken together, and how often at least.
 WANTED = {
     "DiskRead": 2200, "DiskWrite": 3000, "ContentRead": 1900, "StartRead": 290, "StartWrite": 190, "UndoRead": 2, "UndoWrite": 2,
-    "OpeningRead": 500, "OpeningWrite": 200, "OpeningStopped": 1400, "Stopped": 5000,
+    "OpeningRead": 500, "OpeningWrite": 200, "OpeningStopped": 1400, "OpeningStoppedThrice": 1300, "Stopped": 5000, "PoolFull": 2,
 }  # fmt: skip
 
 
@@ -108,8 +117,8 @@ class Drawing:
         self.happen("end-abort", txn)
 
 
-def printed_by(lines, sizes):
-    world = World(*sizes)
+def printed_by(lines, sizes, frames):
+    world = World(*sizes, frames)
     for line in lines:
         world.happen(line)
     return world.printed
@@ -140,13 +149,18 @@ class Failing:
     """A list whose device calls fail in turn."""
 
     def __init__(self, program, seed, frames):
-        drawing = Drawing(seed)
-        self.program, self.sizes, self.frames = program, drawing.sizes, frames
-        self.lines = drawing.lines
-        self.wanted = printed_by(self.lines + LAST, self.sizes)
-        self.met = Counter()
+        self.program, self.sizes, self.lines, self.frames = program, ROW_SIZES, ROW_LINES, frames
+        if seed != ROW:
+            drawing = Drawing(seed)
+            self.sizes, self.lines = drawing.sizes, drawing.lines
+        self.wanted = self.printed_by(self.lines + LAST)
+        self.random = random.Random(seed)
+        self.met = Counter({"PoolFull": self.wanted.count(b"refused 14 PoolFull")})
         self.goes_on = False  # some call of the list met the last failure
         self.name = f"seed {seed}, {frames} frames"
+
+    def printed_by(self, lines):
+        return printed_by(lines, self.sizes, self.frames)
 
     def told(self, lines):
         return told_by(self.program, lines, self.sizes, self.frames)
@@ -165,7 +179,7 @@ class Failing:
         """What is wrong where the machine stops at a device call that makes pages be read, or make way; None where nothing is."""
         for at, line in enumerate(self.lines):
             if line.startswith((b"start-", b"undo-next", b"content")):
-                wanted = printed_by(self.lines[:at] + LAST, self.sizes)[-1]
+                wanted = self.printed_by(self.lines[:at] + LAST)[-1]
                 wrong = self.fault_of_stop(at, NEWEST, wanted) or self.fault_of_stop(at, SYNCED, wanted)
                 if wrong:
                     return wrong
@@ -194,13 +208,19 @@ class Failing:
         return None
 
     def fault_at(self, name, images, number):
-        """The same of one device call. Behind the last one the store opens at once."""
-        spoiled = [b"fail %d" % number, b"restart"] if name == "fail" else [b"restart-stop %d 0 " % number + images]
+        """The same of one device call. Behind the last one the store opens at once. Where the machine stops, it does so again at calls of
+        the two restarts behind that, which are drawn."""
+        calls = [number, *(self.random.randrange(1, number + 1) for _ in range(2))]
+        stops = [b"restart-stop %d 0 " % call + images for call in calls]
+        spoiled = [b"fail %d" % number, b"restart"] if name == "fail" else stops
         told = self.told(self.lines + [OLD] + spoiled + [b"fail 0", b"restart", b"content"])
-        before, _, opened, content = told[-4:]
+        restarts = told[-4:-3] if name == "fail" else told[-6:-3]
+        before, (opened, content) = restarts[0], told[-2:]
         self.goes_on = not before.startswith(b"restarted")
-        wanted = (b"running" if not self.goes_on else b"restarted", self.wanted[-1])
-        what = f"{self.name}, {name} {number} of the restart"
+        is_open = any(said.startswith(b"restarted") for said in restarts)
+        wanted = (b"running" if is_open else b"restarted", self.wanted[-1])
+        what = f"{self.name}, {name} {' '.join(map(str, calls))} of the restart"
+        self.met["OpeningStoppedThrice"] += len(restarts) == 3 and all(said.startswith(b"crashed") for said in restarts)
         if before == b"not-opened 15 DiskWrite" or before.startswith(b"crashed"):
             self.met["OpeningStopped" if name == "stop" else "OpeningWrite"] += 1
         elif before == b"not-opened 3 DiskRead":
@@ -226,7 +246,7 @@ class Failing:
         if said != b"refused 15 DiskWrite":
             return differs([said], [wanted[at]], what)
         self.met.update(["DiskWrite", kind_of(lines[at], False)])
-        before = printed_by([self.lines[0]] + lines[2:at] + LAST, self.sizes)
+        before = self.printed_by([self.lines[0]] + lines[2:at] + LAST)
         behind = [b"refused 2 Failed"]
         lines = lines[: at + 1] + [b"force"] + LAST
         return differs(self.told(lines), [wanted[0], b"nothing"] + before[1 : at - 1] + [said] + behind + before[at - 1 :], what)
@@ -245,7 +265,8 @@ def main():
     chosen = words.parse_args()
     program, seeds = built(chosen.program, "bench"), range(chosen.first, chosen.first + chosen.lists)
     with multiprocessing.Pool(os.cpu_count()) as pool:
-        came = pool.map(tried, [(program, seed, frames) for seed in seeds for frames in FRAMES], chunksize=1)
+        jobs = [(program, ROW, FRAMES[0]), *((program, seed, frames) for seed in seeds for frames in FRAMES)]
+        came = pool.map(tried, jobs, chunksize=1)
     faults, met = [fault for fault, _ in came if fault], sum((met for _, met in came), Counter())
     print("".join(f"{fault}\n" for fault in faults), end="")
     print(f"{len(came) - len(faults)} of {len(came)} runs in few frames go as they should; {dict(sorted(met.items()))}")

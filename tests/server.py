@@ -640,13 +640,14 @@ def until_it_rests(syncs):
 
 
 def few_frames(program, _):
-    """A server with 8 frames keeps as many pages in memory, and one with a frame for each page all of them. Both serve transactions that
-    change more pages than 8. A request that finds too few frames finds them when it is made again at once."""
+    """A server with 8 frames never has more pages in memory, also in its start, and one with a frame for each page has all of them. Both
+    serve transactions that change more pages than 8, and the last one starts from a log of such. A request that finds too few frames
+    finds them when it is made again at once."""
     pages, taken, refused = 8000, [], []
     with store(program, directory=20, cells=pages) as folder:
-        for frames in (8, 67585):
+        for frames in (8, 67585, 8):
             with serving(program, folder, "--frames", frames) as server, server.connect() as connection:
-                taken.append(resident(server.process.pid))
+                taken.append(most_resident(server.process.pid))
                 connection.patience = 0
                 before = len(refused)
                 with connection.transaction() as sending:
@@ -657,8 +658,8 @@ def few_frames(program, _):
                         received = in_frames(refused, lambda: receiving.receive_from(sender))
                         assert received == (sender, frames, b"%d" % sender)
                 assert (len(refused) > before) == (frames == 8), refused
-    assert taken[1] - taken[0] > pages * 3000, taken
-    return f"{taken[0] >> 20} and {taken[1] >> 20} MB, {len(refused)} times PoolFull"
+    assert taken[1] - max(taken[0], taken[2]) > pages * 3000, taken
+    return f"{taken[0] >> 20}, {taken[1] >> 20} and {taken[2] >> 20} MB, {len(refused)} times PoolFull"
 
 
 def in_frames(refused, call):
@@ -670,10 +671,10 @@ def in_frames(refused, call):
         return call()
 
 
-def resident(process):
-    """How many bytes of memory a process has."""
+def most_resident(process):
+    """How many bytes of memory a process has had at most."""
     with open(f"/proc/{process}/status", encoding="utf-8") as status:
-        return int(re.search(r"VmRSS:\s+(\d+)", status.read())[1]) * 1024
+        return int(re.search(r"VmHWM:\s+(\d+)", status.read())[1]) * 1024
 
 
 def failing_force(program, _):

@@ -1,5 +1,6 @@
 -- A log at its bound.
-use Rattle.std.proofs.Common.{◌≡◌, ⊎_elim, ℕ, zero, suc, ◌+◌, ◌-◌, ◌^◌, ◌≤◌, ◌<◌, Bool, false, true, not, cond, List, [], ◌∷◌, length, drop, Option, Some, None, refl, sym, ap, ◌∙◌, subst, inl, inr, arith}
+use Rattle.std.proofs.lemmas.List.{append-nil}
+use Rattle.std.proofs.Common.{◌≡◌, ◌⊎◌, ⊎_elim, ℕ, zero, suc, ◌+◌, ◌-◌, ◌^◌, ◌≤◌, ◌<◌, Bool, false, true, not, cond, List, [], ◌∷◌, length, drop, Option, Some, None, refl, sym, ap, ◌∙◌, subst, inl, inr, arith}
 use Rattle.std.specs.List.{filter, sum_by}
 use Rattle.std.proofs.lemmas.Bool.{lt-ltb, le-ltb}
 use Rattle.rq_restart.proofs.Pasts.{undone_on, work_on}
@@ -26,7 +27,7 @@ use Rattle.rq_model.proofs.Lists.{same_self}
 use Rattle.rq_disk.specs.Device.{Images}
 use Rattle.rq_disk.specs.declared.mem_log.MemLog.{MemLog}
 use Rattle.rq_disk.specs.declared.mem_pages.MemPages.{MemPages}
-use Rattle.rq_log.specs.Spelled.{AreSpelled}
+use Rattle.rq_log.specs.Spelled.{AreSpelled, spelled}
 use Rattle.rq_page.specs.Sizes.{Sizes, sender_count}
 use Rattle.rq_txn.specs.declared.Finished.{Finished}
 use Rattle.rq_groups.specs.Waiting.{waits}
@@ -68,7 +69,8 @@ use Rattle.rq_chain_check.proofs.Sound.{sound_linked}
 use Rattle.rq_restart.specs.Repeating.{Repeats, slots_on}
 use Rattle.rq_analysis.specs.Pages.{IsUndone}
 use Rattle.rq_restart.specs.RolledBack.{IsRolledBack}
-use Rattle.rq_restart.specs.Restarting.{LogStops, StopsOver}
+use Rattle.rq_restart.specs.Restarting.{IsBegunFrom, LeavesSome, StopsOver, WereRead}
+use Rattle.rq_log.proofs.Moments.{weaker}
 use Rattle.rq_restart.proofs.Aborts.{aborting_none, behind_none, active_lost}
 use Rattle.rq_analysis.specs.Recovered.IsRecovered.{NoneLost}
 use Rattle.rq_analysis.specs.Recovered.IsRecovering.{Undoing}
@@ -443,39 +445,62 @@ module _ (n : ℕ) (pages : MemPages) (log : MemLog) (h : Hold pages formatted_p
     room = (let e = length_is n in omega (arith, e, low));
   }
 
-  full_restart : 2 ^ 50 ≤ n → n < 2 ^ 64 → IsRefused pages log why.LogFull pages log
-  full_restart le low =
+  were : WereRead mem_pages mem_log pages log pages sizes formatted_pages
+  were = record { sound = formatted_are; seen = λ honest p below. sym (ap (λ (seen : Images). seen p) (pages_seen_are pages formatted_pages h.0)) }
+
+  -- nothing was written, and all the log was read
+  left_alone : LeavesSome mem_pages mem_log pages log pages sizes
+  left_alone = record {
+    front = restarts n;
+    begins = ([], log_seen log (restarts n) h.1 ∙ sym (append-nil (spelled (restarts n))));
+    made = [];
+    left = record {
+      images = formatted_pages;
+      were = were;
+      now = λ page c may. inl may;
+      moments = record { later = omega arith; each = λ images left page. inl (pages_now pages images left page) };
+    };
+  }
+
+  full_restart : (count : ℕ) → 2 ^ 50 ≤ n → n < 2 ^ 64 → IsRefused pages log count why.LogFull pages log
+  full_restart count le low =
       let e = length_is n in
-      inr (inl (
-        sizes,
-        formatted_pages,
-        formatted_are,
-        λ honest p below. sym (ap (λ (seen : Images). seen p) (pages_seen_are pages formatted_pages h.0)),
-        refl,
-        record {
-          counted = refl;
-          read = λ other. only_read log;
-          over = λ k. inr (
-            restarts n,
-            are_spelled n low,
-            λ honest. ends_all (standing (restarts n)) (mem_log.seen log) (log_seen log (restarts n) h.1),
-            (
-              record {
-                undone = restarts n;
-                undoing = undoing_none (restarts n);
-                now = restarts n;
-                aborting = aborting_none sizes (RepeatedFrom sizes read_pages) (restarts n);
-                turn = inl refl;
-                none_lost = λ e. refl;
-                full = omega (arith, e, le);
-                recovering = λ e past left. Undoing (undoing_none (rebased e (restarts n)));
-              },
-              (read_pages, gone n),
-              only_read log,
-            ),
-          );
-        },
-      ))
+      inr (record {
+        sizes = sizes;
+        images = formatted_pages;
+        were = were;
+        fails = (refl, refl);
+        read = λ enough. (
+          record { same = refl; honest = λ h. h; crash = λ p c may. may; time = record { later = omega arith; nothing_else = λ t c before since. inl since; keeps = λ t c before past. past } },
+          λ other. only_read log,
+          λ honest. weaker mem_log log log (mem_log.may_leave log) (λ c. mem_log.may_leave log c ⊎ IsBegunFrom mem_pages mem_log pages log pages c) (only_read log).moments (λ c may. inl may),
+        );
+        told = λ other honest older spelled ends. record { now = older; more = ([], refl); told = spelled; is = ends; first = inl ([], sym (append-nil (mem_log.seen log))) };
+        unread = λ honest none. only_read log;
+        over = λ k. inr (
+          restarts n,
+          are_spelled n low,
+          λ honest. ends_all (standing (restarts n)) (mem_log.seen log) (log_seen log (restarts n) h.1),
+          (
+            record {
+              undone = restarts n;
+              undoing = undoing_none (restarts n);
+              now = restarts n;
+              aborting = aborting_none sizes (RepeatedFrom sizes read_pages) (restarts n);
+              turn = inl refl;
+              none_lost = λ e. refl;
+              full = omega (arith, e, le);
+              recovering = λ e past left. Undoing (undoing_none (rebased e (restarts n)));
+            },
+            (read_pages, gone n),
+          ),
+        );
+        leaves = λ honest. left_alone;
+        written = record {
+          now = λ page c may. inl may;
+          time = record { later = omega arith; nothing_else = λ t c before since. inl since; keeps = λ t c before past. past };
+        };
+      })
 
   fits_over : (z : Sizes) (first : Images) (new : MemLog) → n < 2 ^ 50 → StopsOver mem_log z first why.LogFull log new → ⊥
   fits_over z first new low (inl l) = ⊎_elim
@@ -485,7 +510,7 @@ module _ (n : ℕ) (pages : MemPages) (log : MemLog) (h : Hold pages formatted_p
       let e = length_is n in
       let many = s.0 in
       omega (arith, f, e, many, low))
-      (⊎_elim (λ w. (let e = w.0 in cc e)) (λ b. (let e = b.told in cc e))) l.why
+      (⊎_elim (λ w. (let e = w.0 in cc e)) (⊎_elim (λ b. (let e = b.told in cc e)) (⊎_elim (λ p. ⊎_elim (λ e. cc e) (λ e. cc e) p.is) (λ f. (let e = f.is in cc e))))) l.why
   fits_over z first new low (inr r) =
       let same : restarts n ≡ r.0 = the_log (restarts n) (restarts_plain n) r.0 (mem_log.seen log) (are_spelled n (omega (arith, low))) r.1 (log_seen log (restarts n) h.1) (r.2 tt) in
       let e = length_is n in
@@ -495,9 +520,6 @@ module _ (n : ℕ) (pages : MemPages) (log : MemLog) (h : Hold pages formatted_p
       let f : length b.now ≡ length r.0 = ap (λ (x : List Record). length x) (b.none_lost (subst IsEnded same (ended n)) ∙ undone) in
       let long = b.full in
       omega (arith, low, e, d, f, long)
-
-  fits_restart : (z : Sizes) (first : Images) (new : MemLog) → n < 2 ^ 50 → LogStops mem_log z first why.LogFull log new → ⊥
-  fits_restart z first new low s = fits_over z first new low (s.over tt)
 
 -- with nothing under way, what a call counts as is all that is counted
 room_for : (n cost : ℕ) (s : State) → sum_by owed (ledger_of s).open_ones ≡ 0 → n + cost ≤ 2 ^ 50
@@ -544,9 +566,9 @@ bounds = record {
   committed_where_it_is_full = λ n pages log number new le a.
       not_committed n (commit_number number) new.state le (steps_own _ _ _ _ _ _ a (tt, tt) (begun_sound n));
   restart_fits = λ n pages log new low h. checked n pages log h new low;
-  restart_is_full = λ n pages log le low h. full_restart n pages log h le low;
-  restart_full_where_it_fits = λ n pages new_pages log new_log low h s.
-      ⊎_elim (λ p. p.0) (⊎_elim (λ l. fits_restart n pages log h l.0 _ new_log low l.5) (λ w. (let e = w.is in cc e))) s;
+  restart_is_full = λ n pages log count le low h. full_restart n pages log h count le low;
+  restart_full_where_it_fits = λ n pages new_pages log new_log count low h s.
+      ⊎_elim (λ p. p.stops) (λ r. fits_over n pages log h r.sizes _ new_log low (r.over (inr tt, tt))) s;
 } where
   length_more : (n : ℕ) → length (one_begun n).records ≡ n + 1
   length_more n = (let e = length_is n in omega (arith, e))

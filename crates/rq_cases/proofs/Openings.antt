@@ -1,7 +1,7 @@
 -- What a restart has checked, what it leaves of a log, and why it was refused.
-use Rattle.std.proofs.Common.{◌≡◌, ◌⊎◌, ⊎_elim, ℕ, ◌+◌, ◌%◌, ◌^◌, Bool, false, true, List, [], ◌∷◌, ◌++◌, length, take, drop, refl, sym, ap, ◌∙◌, ◌≤◌, subst, inl, inr, arith, append_assoc, length-append}
+use Rattle.std.proofs.Common.{◌≡◌, ◌⊎◌, ⊎_elim, ℕ, ◌+◌, ◌%◌, ◌^◌, Bool, false, true, List, [], ◌∷◌, ◌++◌, length, take, drop, refl, sym, ap, ◌∙◌, ◌<◌, ◌≤◌, subst, inl, inr, arith, append_assoc, length-append}
 use Rattle.std.proofs.Math.Seq.{drop-append_seam}
-use Rattle.std.proofs.lemmas.List.{append-nil, length-take-le, take-append-drop}
+use Rattle.std.proofs.lemmas.List.{append-nil, length-drop, length-take-le, take-append-drop}
 use Rattle.rq_restart.specs.Once.{OneLogEach}
 use Rattle.rq_bytes.specs.Number.{number}
 use Rattle.rq_bytes.proofs.Strings.{length-number}
@@ -22,35 +22,42 @@ use Rattle.rq_log.proofs.Moments.{started}
 use Rattle.rq_log.proofs.Runs.{ends_all, spelled-append}
 use Rattle.rq_page.specs.Formatted.{IsHeaderOf}
 use Rattle.rq_page.specs.Pages.{lsn_of}
-use Rattle.rq_page.specs.Sizes.{Sizes}
-use Rattle.rq_pool.specs.Reading.{ArePages, IsSoundPage}
+use Rattle.rq_page.specs.Sizes.{Sizes, IsInRange, page_count}
+use Rattle.rq_pool.specs.Reading.{ArePages, IsSoundPage, IsSuperblock}
 use Rattle.rq_views.specs.WorkedItems.{t1}
 use Rattle.rq_store.specs.Fitting.{image_in}
-use Rattle.rq_store.specs.Opening.{next_restart}
+use Rattle.rq_store.specs.Opening.{IsCounted, next_restart}
+use Rattle.rq_store.specs.Steps.{page_op}
+use Rattle.rq_analysis.specs.Rules.{FollowsRules}
 use Rattle.rq_store.specs.State.{ledger_of, size_of}
 use Rattle.rq_restart.proofs.Begun.{rolled_back_extends}
-use Rattle.rq_restart.specs.Repeating.{Repeats}
-use Rattle.rq_restart.specs.Restarting.{IsBegunOn, LogStops, StopsOver}
+use Rattle.rq_restart.specs.Repeating.{ArePagesCounted, Repeats}
+use Rattle.rq_restart.specs.Leaving.{IsRepeatedTo}
+use Rattle.rq_restart.specs.Restarting.{IsBegunOn, LeavesPages, StopsOver}
+use Rattle.rq_restart.proofs.Repeated.{repeated_counted}
 use Rattle.rq_log.proofs.Parsing.{one_log}
+use Rattle.rq_restart.specs.Telling.{TellsBehind}
 use Rattle.rq_restart.specs.Underway.{IsGoneOnWith, OfStores}
 use Rattle.rq_core.specs.Devices.{mem_log, mem_pages}
 use Rattle.rq_core.proofs.Arms.{refused_stays}
 use Rattle.rq_core.proofs.Judged.{refused_over}
 use Rattle.rq_cases.specs.Opened.{AreNewPages, IsNewLog}
-use Rattle.rq_cases.specs.Openings.{BeginningsAreJudged, Checked, ChecksAreJudged, FewFramesAreJudged, RefusalsAreJudged, log_next}
+use Rattle.rq_cases.specs.Openings.{BeginningsAreJudged, Checked, ChecksAreJudged, FewFramesAreJudged, RefusalsAreJudged, log_next, most_frames}
 use Rattle.rq_cases.specs.Reading.{no_cells}
 use Rattle.rq_cases.specs.Restarting.{read_pages}
-use Rattle.rq_cases.specs.Run.{forced, log_1, log_4, log_5}
-use Rattle.rq_cases.specs.Store.{formatted_pages, sizes}
+use Rattle.rq_cases.specs.Run.{forced, log_1, log_2, log_4, log_5}
+use Rattle.rq_cases.specs.Store.{cells_0, cells_1, cells_2, fill_cell, filled_pages, formatted_pages, freed_pages, groups_0, groups_2, sizes, taken_pages}
 use Rattle.rq_cases.specs.Worlds.{Hold, crashed}
 use Rattle.rq_cases.proofs.Bytes.{first_spelled, records_spelled, spells_one, the_log}
-use Rattle.rq_cases.proofs.Held.{log_now, log_seen, only_records}
+use Rattle.rq_cases.proofs.Held.{log_now, log_seen, only_images, only_records}
+use Rattle.rq_cases.proofs.Images.{lsn_is, slot_is}
+use Rattle.rq_cases.proofs.Pages.{cell_told, cells_0_long, cells_1_long, cells_2_long, fill_written, groups_0_long, groups_2_long, headers_with, others_of_2}
 use Rattle.rq_cases.proofs.Reading.{first_block, no_header}
 use Rattle.rq_restart.proofs.Paths.{kept, kept_extends, kept_stand}
 use Rattle.rq_model.specs.Commits.{committed_of}
 use Rattle.rq_model.specs.Ledger.{Done}
 use Rattle.rq_model.proofs.Cuts.{extends_commits}
-use Rattle.rq_cases.proofs.Restarting.{begun_commit, formatted_fit, is_restart, made_there, no_cell_lsn, open_4, pages_seen_are, same_log, rest_of}
+use Rattle.rq_cases.proofs.Restarting.{begun_commit, counted_read, formatted_fit, is_restart, made_there, no_cell_lsn, no_group_lsn, open_4, pages_seen_are, same_log, rest_of}
 use Rattle.rq_cases.proofs.Running as running
 use Rattle.rq_cases.proofs.Bytes.{first_plain}
 use Rattle.rq_cases.proofs.Bytes.{records_plain}
@@ -124,47 +131,148 @@ pub only_read : (d : MemLog) → IsRead mem_log d d
 only_read d = record { same = refl; honest = λ h. h; leaves = λ c may. may; moments = started mem_log d (mem_log.may_leave d) (λ c left. log_now d c left) }
 
 -- no log is refused so for these
-never_stops : (z : Sizes) (first : Images) (old new : MemLog) → LogStops mem_log z first why.Full old new → ⊥
-never_stops z first old new s = over (s.over tt) where
-  over : StopsOver mem_log z first why.Full old new → ⊥
-  over (inl l) = ⊎_elim (λ s. s) (⊎_elim (λ w. (let e = w.0 in cc e)) (λ b. (let e = b.told in cc e))) l.why
-  over (inr r) = r.3
+never_stops : (z : Sizes) (first : Images) (old new : MemLog) → StopsOver mem_log z first why.Full old new → ⊥
+never_stops z first old new (inl l) = ⊎_elim (λ s. s) (⊎_elim (λ w. (let e = w.0 in cc e)) (⊎_elim (λ b. (let e = b.told in cc e)) (⊎_elim (λ p. ⊎_elim (λ e. cc e) (λ e. cc e) p.is) (λ f. (let e = f.is in cc e))))) l.why
+never_stops z first old new (inr r) = r.3
 
 -- nor as unfinished
-never_unfinished : (z : Sizes) (first : Images) (old new : MemLog) → LogStops mem_log z first why.Unfinished old new → ⊥
-never_unfinished z first old new s = over (s.over tt) where
-  over : StopsOver mem_log z first why.Unfinished old new → ⊥
-  over (inl l) = ⊎_elim (λ s. s) (⊎_elim (λ w. (let e = w.0 in cc e)) (λ b. (let e = b.told in cc e))) l.why
-  over (inr r) = r.3
-
--- where there is no room the log was only read
-full_read : (z : Sizes) (first : Images) (old new : MemLog) → LogStops mem_log z first why.LogFull old new → IsRead mem_log old new
-full_read z first old new s = s.read (λ e. cc e)
-
-pub refusals : RefusalsAreJudged
-refusals = record {
-  unfinished = λ pages new_pages log new_log s. ⊎_elim (λ p. p.0) (⊎_elim (λ l. never_unfinished l.0 _ log new_log l.5) (λ w. (let e = w.is in cc e))) s;
-  log_touched = λ pages new_pages log new_log other s. ⊎_elim (λ p. p.0) (⊎_elim (λ l. other (full_read l.0 _ log new_log l.5).same) (λ w. (let e = w.is in cc e))) s;
-  otherwise = λ pages new_pages log new_log s. ⊎_elim (λ p. p.0) (⊎_elim (λ l. never_stops l.0 _ log new_log l.5) (λ w. (let e = w.is in cc e))) s;
-  one_open = λ old new s. never_unfinished sizes read_pages old new s;
-  begins_not_of_five = λ s. ⊎_elim (λ e. omega (arith, e)) (λ e. omega (arith, e)) s.0;
-  may_not_be_shut = λ s. s;
-  damaged_though_left = λ d s. s tt;
-}
+never_unfinished : (z : Sizes) (first : Images) (old new : MemLog) → StopsOver mem_log z first why.Unfinished old new → ⊥
+never_unfinished z first old new (inl l) = ⊎_elim (λ s. s) (⊎_elim (λ w. (let e = w.0 in cc e)) (⊎_elim (λ b. (let e = b.told in cc e)) (⊎_elim (λ p. ⊎_elim (λ e. cc e) (λ e. cc e) p.is) (λ f. (let e = f.is in cc e))))) l.why
+never_unfinished z first old new (inr r) = r.3
 
 -- a count of failures is never its own next
 never_next : (n : ℕ) → n ≡ (n + 1) % 2 ^ 64 → ⊥
 never_next n e = omega (arith, e)
 
+pub refusals : RefusalsAreJudged
+refusals = record {
+  unfinished = λ pages new_pages log new_log count s. ⊎_elim (λ n. n.stops) (λ r. never_unfinished r.sizes _ log new_log (r.over (inr tt, tt))) s;
+  otherwise = λ pages new_pages log new_log count s. ⊎_elim (λ n. n.stops) (λ r. never_stops r.sizes _ log new_log (r.over (inr tt, tt))) s;
+  one_open = λ old new s. never_unfinished sizes read_pages old new s;
+  memory_with_a_failure = λ pages new_pages log new_log count failed s. ⊎_elim
+      (λ n. never_next (mem_log.faults log) (sym (ap mem_log.faults n.same) ∙ failed))
+      (λ r. never_next (mem_log.faults log) (sym r.fails.1 ∙ failed)) s;
+  write_without_failure = λ pages new_pages log new_log count same kept s. ⊎_elim
+      (λ n. n.stops)
+      (λ r. ⊎_elim (λ f. never_next (mem_pages.faults pages) (sym same ∙ f.2.once)) (λ f. never_next (mem_log.faults log) (sym kept ∙ f.1)) r.fails) s;
+  both_failed = λ pages new_pages log new_log count first second s. ⊎_elim
+      (λ n. n.stops)
+      (λ r. ⊎_elim (λ f. never_next (mem_log.faults log) (sym f.3 ∙ second)) (λ f. never_next (mem_pages.faults pages) (sym f.0 ∙ first)) r.fails) s;
+  commit_lacks_a_page = λ page w. w.is;
+  send_may_lack_its_page = record { low = omega arith; high = omega arith; is = refl };
+  page_lacks_for_memory = λ front old new p. ⊎_elim (λ e. cc e) (λ e. cc e) p.is;
+  not_forced_behind_a_record = λ r old new f. (let e = f.none in cc e);
+  not_forced_without_failure = λ r old new same f. never_next (mem_log.faults old) (sym same ∙ f.failed);
+  begins_not_of_five = λ s. ⊎_elim (λ e. omega (arith, e)) (λ e. omega (arith, e)) s.0;
+  may_not_be_shut = λ s. s;
+  damaged_though_left = λ d s. s tt;
+}
+
+-- the greatest store has no more pages
+within_most : (z : Sizes) → IsInRange z → page_count z ≤ most_frames + 1
+within_most z r = (let d = r.directory_high in let c = r.cells_high in let t = r.tags_high in omega (arith, d, c, t))
+
+-- what is seen of the superblock tells the sizes
+told_sizes : (pages : MemPages) → AreNewPages pages formatted_pages → IsSuperblock sizes (mem_pages.seen pages 0)
+told_sizes pages n = subst (λ (seen : Images). IsSuperblock sizes (seen 0)) (sym (pages_seen_are pages formatted_pages n)) first_block
+
+-- the send's first write is made of the cell page
+fill_follows : FollowsRules log_1 (page_op t1 1 fill_cell)
+fill_follows = record { running = refl; going = refl; begun = tt; numbered = λ none. refl; undoes = tt; takes_back = tt; reads = tt; begins = tt }
+
+repeated_1 : Repeats sizes log_1 read_pages read_pages
+repeated_1 = (
+  read_pages,
+  refl,
+  record {
+    belongs = record {
+      next = refl;
+      follows = record { running = tt; going = tt; begun = tt; numbered = tt; undoes = tt; takes_back = tt; reads = tt; begins = tt };
+      may = record { write = tt; before = tt };
+    };
+    redone = λ p. refl;
+  },
+)
+
+abbrev filled : Images
+filled = image_in filled_pages
+
+repeated_2 : Repeats sizes log_2 read_pages filled
+repeated_2 = (
+  read_pages,
+  repeated_1,
+  record {
+    belongs = record {
+      next = (omega arith, refl);
+      follows = fill_follows;
+      may = record {
+        write = record { slot = cell_told.1; count = omega arith };
+        before = λ older. slot_is 0 2 2 cells_0 cells_0_long 1 (omega arith) (omega arith);
+      };
+    };
+    redone = record {
+      made = λ older. fill_written;
+      kept = λ newer. absurd (let e = no_cell_lsn in omega (arith, e, newer));
+      others = others_of_2 0 0 2 groups_0 cells_0 cells_1;
+    };
+  },
+)
+
+-- what is as repeated records leave it is ahead of none of them
+none_ahead : (records : List Record) (first : Images) (page : ℕ) (c : List ℕ) → ArePagesCounted sizes (length records) first → 1 ≤ page → page < 3 → IsRepeatedTo sizes first records page c → lsn_of c ≤ length records
+none_ahead records first page c counted low high r =
+    let all = repeated_counted sizes (length records) (drop r.lacks records) first r.last r.repeated (let less = length-drop r.lacks records in omega (arith, less)) counted in
+    subst (λ (i : List ℕ). lsn_of i ≤ length records) (sym r.is) (all page low (omega (arith, high))).lsn
+
+freed_lsn : lsn_of (image_in freed_pages 2) ≡ 6
+freed_lsn = lsn_is 6 2 2 cells_2 cells_2_long (omega arith)
+
+taken_lsn : lsn_of (image_in taken_pages 1) ≡ 7
+taken_lsn = lsn_is 7 1 1 groups_2 groups_2_long (omega arith)
+
+-- nothing behind the log makes the image that the receive leaves
+left_by_none : (pages : MemPages) (log : MemLog) (new_pages : MemPages) (records : List Record) → AreNewPages pages formatted_pages → length records ≤ 6 → mem_pages.may_be new_pages 1 (image_in taken_pages 1)
+    → LeavesPages mem_pages mem_log pages log new_pages sizes records → ⊥
+left_by_none pages log new_pages records n short may l = ⊎_elim
+    (λ was. (let e = taken_lsn in let none = no_group_lsn in let same = ap lsn_of (only_images formatted_pages pages n 1 (image_in taken_pages 1) was) in omega (arith, e, none, same)))
+    (λ r. (let e = taken_lsn in let low = none_ahead records (image_in l.images) 1 (image_in taken_pages 1) counted (omega arith) (omega arith) r in omega (arith, e, low, short))) (l.now 1 (image_in taken_pages 1) may) where
+      counted : ArePagesCounted sizes (length records) (image_in l.images)
+      counted p low high =
+          subst (IsCounted sizes (length records) p) (sym (l.were.seen tt p high ∙ ap (λ (seen : Images). seen p) (pages_seen_are pages formatted_pages n))) (counted_read (length records) p low high)
+
+-- an empty log tells none of five records
+five_seen : (log : MemLog) → IsNewLog log log_5 → EndsWithAll (standing log_5) (mem_log.seen log)
+five_seen log n = ends_all (standing log_5) (mem_log.seen log) (log_seen log log_5 n)
+
+nothing_stands : [] ≡ spelled log_5 → ⊥
+nothing_stands e = (let same : [] ≡ log_5 = the_log [] tt log_5 [] tt records_spelled refl (ends_all (standing log_5) [] e) in let n : 0 ≡ 5 = ap (λ (l : List Record). length l) same in omega (arith, n))
+
+nothing_told : (seen : List ℕ) → TellsBehind log_5 seen [] → ⊥
+nothing_told seen t =
+    let none : [] ≡ t.now = the_log [] tt t.now [] tt t.told refl t.is in
+    let e = ap (λ (l : List Record). length l) (ap standing none ∙ t.more.1) in
+    let sum = length-append t.more.0 (standing log_5) in
+    omega (arith, e, sum)
+
 pub few_frames : FewFramesAreJudged
 few_frames = record {
   other_count = λ pages log count s report other o. other o.frames;
-  write_without_failure = λ pages new_pages log new_log same kept s. ⊎_elim
-      (λ p. p.0)
-      (⊎_elim (λ l. never_next (mem_log.faults log) (sym kept ∙ l.5.counted)) (λ w. never_next (mem_pages.faults pages) (sym same ∙ w.failed))) s;
-  written_and_full = λ pages new_pages log new_log other s. ⊎_elim (λ only. other only.same) (λ w. (let e = w.is in cc e)) s.refuses.pages_read;
+  log_emptied = λ pages new_pages log new_log n left k. ⊎_elim
+      (λ may. nothing_stands (only_records log log_5 n [] may))
+      (nothing_told (mem_log.seen log)) ((k.kept tt log_5 records_spelled (five_seen log n)).each [] left);
+  log_left_empty = λ pages new_pages log new_log count n none s. ⊎_elim
+      (λ l. l.stops)
+      (λ o. nothing_told (mem_log.seen log) (subst (TellsBehind log_5 (mem_log.seen log)) none (o.told (λ e. cc e) tt log_5 records_spelled (five_seen log n)))) s;
+  written_where_enough = λ pages new_pages n other r. other (r tt sizes (told_sizes pages n) (omega arith)).same;
+  opened_and_written = λ pages log s report are other o. other (o.read (subst (λ (z : Sizes). page_count z ≤ 2 + 1) (sym are) (omega arith))).0.same;
+  refused_and_written = λ pages new_pages log new_log r other s. ⊎_elim (λ n. other n.read.same) (λ o. other (o.read (within_most o.sizes o.were.sound.superblock.range)).0.same) s;
+  log_touched = λ pages new_pages log new_log other s. ⊎_elim (λ n. n.stops) (λ o. other ((o.read (within_most o.sizes o.were.sound.superblock.range)).1 (λ e. cc e)).same) s;
   changed_for_nothing = λ pages log count s report page within changed same o. (let newer = o.marked tt page within changed in omega (arith, newer, same));
-  left_another = λ pages log count s report page c left never other o. ⊎_elim never (λ image. other image.0) (o.pages_left.now page c left);
+  left_as_repeated = record { lacks = 3; last = filled; repeated = repeated_2; is = refl; header = λ low high. headers_with 0 2 groups_0 cells_1 (omega arith) (omega arith) groups_0_long cells_1_long 2 low high };
+  left_by_a_later_record = λ r. (let e = freed_lsn in let low = none_ahead log_5 read_pages 2 (image_in freed_pages 2) (counted_read 5) (omega arith) (omega arith) r in omega (arith, e, low));
+  left_without_a_header = λ records r. no_header _ 2 2 (r.header (omega arith) (omega arith));
+  left_by_no_record = λ pages log count s report n are short may o.
+      left_by_none pages log s.pages s.state.records n short may (subst (λ (z : Sizes). LeavesPages mem_pages mem_log pages log s.pages z s.state.records) are (o.pages_left (tt, tt)));
 }
 
 next_spelled : AreSpelled log_next

@@ -133,8 +133,8 @@ made_there first last none still five =
 pub open_4 : IsEnded log_4 → ⊥
 open_4 e = cc e
 
-pub none_full : (untouched : Type 0) → Shuts log_5 why.LogFull untouched → ⊥
-none_full untouched s =
+none_full : Shuts log_5 why.LogFull → ⊥
+none_full s =
     let b = s.0 in
     let e : length b.now ≡ 5 = ap length (b.none_lost refl ∙ nothing_undone log_5 b.undone refl refl b.undoing) in
     let full = b.full in
@@ -201,8 +201,8 @@ restarts = record {
   begun_by_a_commit = begun_commit;
   not_repeated = λ g. made_there read_pages read_pages no_cell_lsn no_cell_lsn g.repeated;
   unfinished = λ s. s;
-  log_full_of_five = none_full (Unit {0});
-  disk_without_a_failure = λ s. (let e = s.0 in omega (arith, e));
+  log_full_of_five = none_full;
+  disk_over_a_lone_commit = λ s. (let n = s.1.repeated.2.belongs.next.1 in omega (arith, n));
   chains_are_whole = λ page u. u.none [] refl left_5;
   stops_unfinished = λ s. s;
   stops_for_damage = λ d s. s left_4;

@@ -150,8 +150,8 @@ pub record BoundsAreJudged : Type 0 where
   -- a restart takes one, too
   pub restart_fits : (n : ℕ) (pages : MemPages) (log new : MemLog) → n < 2 ^ 50
       → Hold pages formatted_pages log (restarts n) → Checked pages log new read_pages (restarts (suc n))
-  pub restart_is_full : (n : ℕ) (pages : MemPages) (log : MemLog) → 2 ^ 50 ≤ n → n < 2 ^ 64
-      → Hold pages formatted_pages log (restarts n) → IsRefused pages log why.LogFull pages log
-  pub restart_full_where_it_fits : (n : ℕ) (pages new_pages : MemPages) (log new_log : MemLog) → n < 2 ^ 50
+  pub restart_is_full : (n : ℕ) (pages : MemPages) (log : MemLog) (count : ℕ) → 2 ^ 50 ≤ n → n < 2 ^ 64
+      → Hold pages formatted_pages log (restarts n) → IsRefused pages log count why.LogFull pages log
+  pub restart_full_where_it_fits : (n : ℕ) (pages new_pages : MemPages) (log new_log : MemLog) (count : ℕ) → n < 2 ^ 50
       → Hold pages formatted_pages log (restarts n)
-      → IsRefused pages log why.LogFull new_pages new_log → ⊥
+      → IsRefused pages log count why.LogFull new_pages new_log → ⊥

@@ -1,5 +1,5 @@
 -- What a restart finds, makes and refuses, over the worked run.
-use Rattle.std.specs.Prelude.{ℕ, List, ◌∷◌, length}
+use Rattle.std.specs.Prelude.{ℕ, List, [], ◌∷◌, length}
 use Rattle.rq_disk.specs.Device.{Images}
 use Rattle.rq_model.specs.declared.record.Record.{Record}
 use Rattle.rq_model.specs.declared.refusal.Refusal.{Refusal}
@@ -25,9 +25,9 @@ use Rattle.rq_cases.specs.Store.{formatted_pages, sent_pages, sizes}
 abbrev pub read_pages : Images
 read_pages = image_in formatted_pages
 
--- a restart was refused for this over the log, and the log's device was left alone
-abbrev pub Shuts : List Record → Refusal → Type 0 → Type 0
-Shuts log r untouched = WhyShut sizes log read_pages r 0 0 untouched
+-- a restart was refused for this over the log
+abbrev pub Shuts : List Record → Refusal → Type 0
+Shuts log r = WhyShut sizes log read_pages r
 
 pub record RestartsAreJudged : Type 0 where
   pub reports_the_same_incarnation : (n undone gone : ℕ) → Reports sizes log_5 (Restart 2 ∷ log_5) 1 n undone gone
@@ -48,9 +48,9 @@ pub record RestartsAreJudged : Type 0 where
   -- the log is gone through, and history repeated where a page is older
   pub not_repeated : IsReadAndRedone sizes log_5 read_pages read_pages → ⊥
   -- why it is refused
-  pub unfinished : Shuts log_4 why.Unfinished (Unit {0}) → ⊥
-  pub log_full_of_five : Shuts log_5 why.LogFull (Unit {0}) → ⊥
-  pub disk_without_a_failure : Shuts log_5 why.DiskWrite (Unit {0}) → ⊥
+  pub unfinished : Shuts log_4 why.Unfinished → ⊥
+  pub log_full_of_five : Shuts log_5 why.LogFull → ⊥
+  pub disk_over_a_lone_commit : Shuts (Commit t1 ∷ []) why.DiskWrite → ⊥
   -- nor for chains, as they are whole once history is repeated; and where it is left so, for no damage at all
   pub chains_are_whole : (page : ℕ) → IsUnlinked sizes log_5 read_pages page → ⊥
   pub stops_unfinished : Stops (Unit {0}) sizes log_4 why.Unfinished 0 0 0 0 → ⊥

@@ -5,5 +5,4 @@ pub mod Followed
 pub mod Nexts
 pub mod Options
 pub mod Sound
-pub mod Stops
 pub mod Walks

@@ -113,10 +113,10 @@ framed_in pages log frames (Ok o) opens = opens.frames
 framed_in pages log frames (Err s) opens = tt
 
 -- a restart that was refused
-pub stays : (pages : MemPages) (log : MemLog) (r : Result (Engine × Report) (Stopped MemPages MemLog)) → IfErr r (λ s. Refuses mem_pages mem_log pages log s.refusal s.pages s.log) → KeepsStores mem_pages mem_log pages log (pages_left r) (log_left r)
+pub stays : (pages : MemPages) (log : MemLog) (frames : ℕ) (r : Result (Engine × Report) (Stopped MemPages MemLog)) → IfErr r (λ s. Refuses mem_pages mem_log pages log frames s.refusal s.pages s.log) → KeepsStores mem_pages mem_log pages log (pages_left r) (log_left r)
     → IfErr r (λ s. IsRefused pages log s.refusal s.pages s.log)
-stays pages log (Ok o) why keeps = tt
-stays pages log (Err s) why keeps = record { refuses = why; keeps = keeps }
+stays pages log frames (Ok o) why keeps = tt
+stays pages log frames (Err s) why keeps = record { frames = frames; refuses = why; keeps = keeps }
 
 -- a restart that opened the store, as a happening
 pub opened : OneLogEach → OneSizeEach → (z : Sizes) → RestartGoesOn (size_of z) → (course : Course) (x : Happening) (pages : MemPages) (log : MemLog) (report : Report) (new : Engine) → MayRestart course x → IsOpened pages log report new

@@ -115,7 +115,7 @@ refused_over z h pages new_pages log new_log r here stopped =
       reads = there.reads;
       whole = there.left.whole;
       cause = given r (IsLeftOn mem_pages y pages new_pages there.read) y there.read (mem_pages.faults pages) (mem_pages.faults new_pages) (mem_log.faults log) (mem_log.faults new_log) (record { honest = tt; left = there.left })
-          (stopped.refuses.stops y (record { range = here.range; formatted = there.left.fits.superblock }) there.read (record { honest = tt; are_spelled = there.told; reads = there.reads }));
+          (stopped.refuses.stops tt y (record { range = here.range; formatted = there.left.fits.superblock }) there.read (record { honest = tt; are_spelled = there.told; reads = there.reads }));
     }
 
 module _ (size_once : OneSizeEach) (met : (z : Sizes) (course : Course) (w : MemWorld) → Led z course w → Ran z course w) (z : Sizes) (course : Course) where

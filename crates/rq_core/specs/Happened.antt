@@ -82,9 +82,10 @@ module _ {P L : Type 0} (p : page_device.Ghosts P) (l : log_device.Ghosts L) whe
     pub frames : ℕ
     pub opens : restart.Opens p l pages log frames new report
 
-  -- a restart refused to open it for this, and left the devices so
+  -- a restart refused to open it for this, in some frames, and left the devices so
   pub record IsRefused (pages : P) (log : L) (refusal : Refusal) (new_pages : P) (new_log : L) : Type 0 where
-    pub refuses : restart.Refuses p l pages log refusal new_pages new_log
+    pub frames : ℕ
+    pub refuses : restart.Refuses p l pages log frames refusal new_pages new_log
     pub keeps : restart.KeepsStores p l pages log new_pages new_log
 
   -- a crash inside a restart: behind a restart that was refused, of what that has left

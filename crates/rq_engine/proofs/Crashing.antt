@@ -412,15 +412,6 @@ module _ {P L : Type 0} (p : page_device.Ghosts P) (l : log_device.Ghosts L) (on
       (behind p l only_pages (over x old) (over x new) k fit (told_over x long) page image past w) (omega (arith, forced)) (omega (arith, forced, few))
       (log_still p l only_pages only_log (over x old) (over x new) (told_over x long) (leaves_over x long none) honest log)
 
-  -- pages are kept up: some may be handed to their device
-  pub kept_fit : IsKeptUp p old.state.forced (pooled old) (pooled new) → new.state.sizes ≡ old.state.sizes → new.state.records ≡ old.state.records → new.state.forced ≡ old.state.forced → new.log ≡ old.log → KeepsFit p l old new
-  kept_fit w sizes records forced log none h x long k fit =
-      let few = k.forced in
-      let honest : l.honest old.log = subst (λ (d : L). l.honest d) log h.1 in
-      stays_fit p l only_pages (over x old) (over x new) k fit (told_over x long) sizes (ap (rebased x) records) (leaves_over x long none honest)
-      (kept_up p l only_pages (over x old) (over x new) k fit (told_over x long) w) (omega (arith, forced)) (omega (arith, forced, few))
-      (log_still p l only_pages only_log (over x old) (over x new) (told_over x long) (leaves_over x long none) honest log)
-
   -- its pages are made durable
   pub sync_fit : MayHaveSynced p old.pages new.pages → new.state.sizes ≡ old.state.sizes → new.state.records ≡ old.state.records → new.state.forced ≡ old.state.forced → new.log ≡ old.log → KeepsFit p l old new
   sync_fit w sizes records forced log none h x long k fit =

@@ -323,7 +323,3 @@ module _ (s : State) (f : Bool) (o res : ℕ) (k : IsConsistent s f o res) (sub 
       let latched = row_latched s.rows g.row (w.at / 16) (found_in sub.txn s.rows g.row g.found).0 (ap (λ (u : Option Under). latched_under u (w.at / 16)) g.is ∙ page_latched g.under.writes g.under.made w g.so) in
       let fixed = are.fixed (w.at / 16) (next_slot s f o res k sub w h).place.page_low latched in
       record { at = fixed.at; within = fixed.within; is = fixed.is }
-
--- where nothing is under way, no page is fixed but the superblock
-pub none_under : (rows : List Row) (frames : List Held) → rows ≡ [] → AreFixedAsLatched rows frames → (q : ℕ) → 1 ≤ q → IsFixed frames q → ⊥
-none_under rows frames none are q low fixed = false≢true (sym (ap (λ (r : List Row). latched_in r q) none) ∙ are.latched q low fixed)

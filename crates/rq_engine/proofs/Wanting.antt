@@ -164,7 +164,7 @@ module _ (s : State) (ws : List SlotWrite) where
     record { number = n; writes = ws; made = 0; aim = Undoing f.lsn f.deed },
     refl,
     p.free,
-    (f, (n, back), record { planned = record { made = refl; aim = refl; plan = p.planned }; lowest = p.lowest }),
+    (f, (n, back), record { can = p.can; planned = record { made = refl; aim = refl; plan = p.planned }; lowest = p.lowest }),
   )
 
 -- ---- replies

@@ -23,6 +23,7 @@ use Rattle.rq_sound.specs.Groups.{slots_now}
 use Rattle.rq_sound.specs.Plans.{IsPlannedFrom}
 use Rattle.rq_sound.specs.Rows.{comp_end}
 use Rattle.rq_sound.specs.Inverses.{InverseIsLatched, InverseTakesLowest}
+use Rattle.rq_planner.specs.Backs.{CanBeTakenBack}
 use Rattle.rq_engine.specs.Answers.{HasNothingUnderWay, IsUnderWay}
 use Rattle.rq_engine.specs.KeptUp.{with_images_of}
 use Rattle.rq_engine.specs.Moves.{with_taken}
@@ -81,8 +82,9 @@ pub record IsUndoStarted (old : State) (sub : Sub) (IsPlan : Under → Finished 
   pub plan : IsPlan under done
   pub lists : new ≡ record old { rows = change_row sub.txn (row_started under) old.rows }
 
--- it was planned from the slots of the store, and takes the lowest free cell where it takes one
+-- It was planned from the slots of the store, by which its deed was done last. It takes the lowest free cell where it takes one.
 pub record IsLowestUndo (s : State) (u : Under) (f : Finished) : Type 0 where
+  pub can : CanBeTakenBack s.sizes (slots_now s) f.deed
   pub planned : IsUndoPlan s.sizes (slots_in s.sizes s.images) u f
   pub lowest : UndoTakesLowest s f.deed u.writes
 

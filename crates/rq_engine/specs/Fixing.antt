@@ -29,7 +29,7 @@ HasNoFrames MayBePlanned old = (ws : List SlotWrite) × LacksFrames old ws × Ma
 abbrev pub HasOneOutside : {P L : Type 0} → (MayBePlanned : List SlotWrite → Type 0) → OpenStore P L → Type 0
 HasOneOutside MayBePlanned old = (ws : List SlotWrite) × (AreFramed old.frames (pages_of ws) → ⊥) × MayBePlanned ws
 
--- a refusal for frames has one cause, and one as a page was not written out for them the other
+-- why a call was refused: as it says for want of frames, and as it says where a page could not be written out for others
 abbrev pub OnFrames : Type 0 → Type 0 → Refusal → Type 0
 OnFrames full outside why.PoolFull = full
 OnFrames full outside why.DiskWrite = outside

@@ -143,8 +143,8 @@ abbrev pub ChangesStay : {P L : Type 0} → Bool → OpenStore P L → OpenStore
 ChangesStay true old new = Unit {0}
 ChangesStay false old new = new.changed ≡ old.changed
 
--- A content is shown of pages that are read: the device reads as before, and a crash leaves nothing more of it. It is not called
--- where each page stands in a frame.
+-- A content is shown of pages that are read: the device reads as before, and a crash leaves nothing more of it. The device is not
+-- called where each page stands in a frame.
 abbrev pub IsShown : {P L : Type 0} → page_device.Ghosts P → OpenStore P L → OpenStore P L → Type 0
 IsShown g old new = IsKeptUp g old.state.forced (pooled old) (pooled new) × OnlyRead g old.pages new.pages
     × StayWhereFramed old new

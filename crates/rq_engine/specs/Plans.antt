@@ -30,6 +30,7 @@ use Rattle.rq_level.specs.LevelState.{LevelState}
 use Rattle.rq_level.specs.Ops.{Job}
 use Rattle.rq_planner.specs.Answered.{IsAnsweredBack, IsAnsweredFor, IsDeedFor, IsHeldUp, KnowsCells, MayBeAsked, RefusesPlan, SendTakesLowest, deed_of}
 use Rattle.rq_planner.specs.Asked.{Asked, Task, doing_sender, known}
+use Rattle.rq_planner.specs.Backs.{CanBeTakenBack}
 use Rattle.rq_planner.specs.Asked.Task.{Chain, Tag}
 use Rattle.rq_engine.specs.Aborts.{UndoTakesLowest}
 use Rattle.rq_engine.specs.Answers.{HasNothingUnderWay}
@@ -67,8 +68,9 @@ pub record IsDeedPlan (s : State) (task : Task) (plan : Planned) : Type 0 where
   pub count : length plan.writes ≤ 3
   pub reads : TellsItself plan.deed
 
--- The writes that take back a deed, from the slots as they are, on pages that nobody has latched.
+-- The writes that take back a deed, which was done last by the slots as they are, on pages that nobody has latched.
 pub record IsInversePlan (s : State) (d : Deed) (writes : List SlotWrite) : Type 0 where
+  pub can : CanBeTakenBack s.sizes (slots_now s) d
   pub planned : IsPlannedFrom s.sizes (slots_now s) writes (Undid d)
   pub slots : AreSlotWrites s.sizes writes
   pub free : AreUnlatched s writes

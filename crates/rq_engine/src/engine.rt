@@ -9,7 +9,8 @@ ghost use Rattle.rq_disk.specs.Device.{Only};
 ghost use Rattle.rq_log.specs.Crash.{LeavesOnly};
 ghost use Rattle.rq_log.specs.Logged.{WasDurable};
 ghost use Rattle.rq_log.specs.Spelled.{spelled, AreSpelled, IsBeginning};
-ghost use Rattle.rq_page.specs.Sizes.{sender_count};
+ghost use Rattle.rq_page.specs.Sizes.{page_count, sender_count};
+ghost use Rattle.rq_pool.specs.Fetching.{AreAllFramed};
 ghost use Rattle.rq_groups.specs.Sent.{sent_count};
 ghost use Rattle.rq_groups.specs.Waiting.{waits};
 ghost use Rattle.rq_store.specs.Sends.{place_count};
@@ -18,7 +19,7 @@ ghost use Rattle.rq_engine.specs.Earlier.{on, over, IsEarlier};
 ghost use Rattle.rq_model.specs.declared.record.Record.{Record};
 ghost use Rattle.rq_planner.specs.Answered.{KnowsCells};
 ghost use Rattle.rq_pool.specs.Held.{IsFixed};
-ghost use Rattle.rq_engine.specs.Opened.{LeavesDevices, NotWritten};
+ghost use Rattle.rq_engine.specs.Opened.{LeavesDevices, NotWritten, pooled};
 ghost use Rattle.rq_engine.specs.Checkpoint.{IsBeginningOrBase};
 ghost use Rattle.rq_engine.specs.Crash.{AreFit, KeepsFit, LeavesCut};
 ghost use Rattle.rq_engine.specs.Answers.{AnswersLegally, HasNothingUnderWay};
@@ -116,8 +117,8 @@ impl<P: PageDevice, L: LogDevice, B: Level> Model for Engine<P, L, B> {
 }
 
 impl<P: PageDevice + Drop, L: LogDevice + Drop, B: Level> Engine<P, L, B> {
-    /// The engine of a store whose log ends with the Restart record of this incarnation, with a planner that was told of
-    /// each slot that its levels keep anything of.
+    /// The engine of a store whose log ends with the Restart record of this incarnation. The planner was told of each slot that its
+    /// levels keep anything of.
     pub fn open(
         alloc: Global,
         pages: Pages<P>,
@@ -238,6 +239,13 @@ impl<P: PageDevice, L: LogDevice, B: Level> Engine<P, L, B> {
         ensures { AreFixedAsLatched self.now.state.rows self.now.frames }
     {
         let _failed = self.failed;
+    }
+
+    /// For proofs: with as many frames as the store has pages, each page stands in one. It runs no code.
+    pub fn shows_all(&self)
+        ensures { page_count self.now.state.sizes ≤ length self.now.frames → AreAllFramed (pooled self.now) }
+    {
+        self.pages.shows_all();
     }
 
     /// The number of records that are forced. No crash loses one of them.

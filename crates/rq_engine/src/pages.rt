@@ -1,15 +1,12 @@
 //! Pages that go out.
-ghost use Rattle.std.specs.Prelude.{◌≡◌, ◌≢◌, ◌↔◌, ◌≤◌, ◌+◌, ◌%◌, ◌^◌, ℕ, IfErr, IsOk, OnErr, OnOk, [], false, length, min, true};
+ghost use Rattle.std.specs.Prelude.{◌≡◌, ◌≢◌, ◌↔◌, IfErr, length, true};
 ghost use Rattle.rq_model.specs.History.Call.{Write_page};
 ghost use Rattle.rq_model.specs.Replay.Reply.{Gave_written};
-ghost use Rattle.rq_pool.specs.Fixing.{AreForcedTo};
-ghost use Rattle.rq_pool.specs.KeptUp.{IsKeptUp};
-ghost use Rattle.rq_pool.specs.Held.{IsFramed};
-ghost use Rattle.rq_pool.specs.Pooled.{image_at, is_changed};
+ghost use Rattle.rq_pool.specs.Pooled.{image_at};
 ghost use Rattle.rq_pool.specs.Writing.{DeviceAfter, changed_after};
 ghost use Rattle.rq_engine.specs.Answers.{AnswersLegally};
 ghost use Rattle.rq_engine.specs.Crash.{KeepsFit};
-ghost use Rattle.rq_engine.specs.Opened.{WritesWhen, pooled, state_after};
+ghost use Rattle.rq_engine.specs.Opened.{WritesWhen, state_after};
 ghost use Rattle.rq_engine.specs.Says.{is_done};
 
 use crate::engine::Engine;
@@ -17,7 +14,6 @@ use rq_disk::{LogDevice, PageDevice};
 use rq_level::Level;
 use rq_model::refusal::Refusal;
 use rq_pool::Written;
-use rq_pool::frame_count::FrameCount;
 
 impl<P: PageDevice, L: LogDevice, B: Level> Engine<P, L, B> {
     /// Writes a page out to its device, where it has a change that was not written and the record of its last change is
@@ -56,38 +52,6 @@ impl<P: PageDevice, L: LogDevice, B: Level> Engine<P, L, B> {
                 Err(Refusal::DiskWrite)
             }
             Err(refusal) => Err(refusal),
-        }
-    }
-    /// Lets go of frames until so many are left beside that of the superblock. The pages in those that go, and no others, are written
-    /// out where they have a change. It is called of a store that runs, where nothing is under way and no page is ahead of what is
-    /// forced. The store is as it was then, also for a crash.
-    ///
-    /// # Errors
-    /// `DiskWrite`, which stops the store.
-    pub fn shrink(&mut self, frames: FrameCount) -> Result<(), Refusal>
-        requires running { self.old.state.failed ≡ false }
-        requires idle { self.old.state.rows ≡ [] }
-        requires forced { AreForcedTo (pooled self.old) self.old.state.forced }
-        ensures enough { length self.old.frames ≤ frames.count + 1 → IsOk result × (self.new ≡ self.old) }
-        ensures stays { (p : ℕ) → IsFramed self.new.frames p → is_changed self.new.changed p ≡ is_changed self.old.changed p }
-        ensures count { OnOk result (length self.new.frames ≡ min (length self.old.frames) (frames.count + 1)) }
-        ensures state { OnOk result (self.new.state ≡ self.old.state) }
-        ensures stopped { OnErr result (self.new.state ≡ record self.old.state { failed = true }) }
-        ensures refused { IfErr result (λ r. (r ≡ Refusal.DiskWrite)
-            × (P.faults self.new.pages ≡ (P.faults self.old.pages + 1) % 2 ^ 64)) }
-        ensures counted { OnOk result (P.faults self.new.pages ≡ P.faults self.old.pages) }
-        ensures kept { IsKeptUp P.PageDevice self.old.state.forced (pooled self.old) (pooled self.new) }
-        ensures log { self.new.log ≡ self.old.log }
-        ensures replacing { self.new.replacing ≡ self.old.replacing }
-        ensures fit { KeepsFit P.PageDevice L.LogDevice self.old self.new }
-    {
-        self.shows_kept();
-        match self.pages.shrink(frames, self.log.forced()) {
-            Ok(()) => Ok(()),
-            Err(refusal) => {
-                self.failed = true;
-                Err(refusal)
-            }
         }
     }
 }

@@ -10,6 +10,7 @@ ghost use Rattle.rq_model.specs.Commits.{op_of};
 ghost use Rattle.rq_model.specs.Content.{said};
 ghost use Rattle.rq_engine.specs.KeptUp.{AnswerCounts, HasReadPages, HasTried, IsGivenBy, KeepsDevices, RefusedButRead};
 ghost use Rattle.rq_level.specs.Writes.{with_plan};
+ghost use Rattle.rq_sound.specs.Groups.{slots_now};
 ghost use Rattle.rq_sound.specs.Plans.{AreUnlatched};
 ghost use Rattle.rq_engine.specs.Answers.{AnswersLegally};
 ghost use Rattle.rq_engine.specs.Applied.{TakesUnlatched};
@@ -20,6 +21,7 @@ ghost use Rattle.rq_store.specs.State.{ledger_of, op_done};
 ghost use Rattle.rq_model.specs.Vocabulary.{is_some};
 ghost use Rattle.rq_planner.specs.Answered.{IsPlanned};
 ghost use Rattle.rq_planner.specs.Asked.{Undo};
+ghost use Rattle.rq_planner.specs.Backs.{CanBeTakenBack};
 ghost use Rattle.rq_planner.specs.Lawful.{IsLawfulInverse, MayRefuse};
 ghost use Rattle.rq_model.specs.declared.record.Deed.{Deed};
 ghost use Rattle.rq_views.specs.InStore.{IsDeedOf};
@@ -134,6 +136,8 @@ impl<P: PageDevice, L: LogDevice, B: Level> Engine<P, L, B> {
         ensures answered { IsGivenBy P.PageDevice result self.new → LevelsAnswer self.old.state (to_undo told.now) (with_plan plan.new result) }
         ensures planned { IsGivenBy P.PageDevice result self.new → (d : Deed) → deed_back told.now ≡ Some d → IsDeedOf self.old.state.sizes d
             → IsPlanned (known_part self.old.state) (Undo d) (with_plan plan.new result) }
+        ensures can { IsGivenBy P.PageDevice result self.new → (d : Deed) → deed_back told.now ≡ Some d → IfOk (with_plan plan.new result)
+            (λ p. CanBeTakenBack self.old.state.sizes (slots_now self.old.state) d) }
     {
         plan.writes = self.transactions.spare();
         self.planner.plan_inverse(self.alloc, &mut self.pages, &self.transactions, told, plan)

@@ -62,5 +62,13 @@ wrong_levels = record {
       let over = lawful.before_undo c.kept c.asked c.given c.latched p left (inr (refl, refl, refl, refl, refl, refl)) right.asked.of right.asked.noted in
       let written = subst (λ told. AreBackOver told c.kept c.given c.latched p.writes.items) is over in
       other (subst (IsOneWrite (page * 16 + slot) after before) one written).1;
+  four_writes = λ n c q p left right but many lawful. (let few = lawful.count c.kept c.asked c.given c.latched p left (inr (refl, refl, refl, refl, refl, refl)) in absurd (omega (arith, few, many)));
+  another_image = λ n c q p left w rest bytes right but writes given another lawful.
+      let over = lawful.before c.kept c.asked c.given c.latched p left (inr (refl, refl, refl, refl, refl, refl)) right.asked.of right.asked.noted in
+      let each = recursion_from_All (λ (v : SlotWrite). IsOver c.kept c.latched v (given_at v.at c.given)) p.writes.items over in
+      another (subst (IsOver c.kept c.latched w) given (each_in (λ (v : SlotWrite). IsOver c.kept c.latched v (given_at v.at c.given)) p.writes.items each w (subst (In w) (sym writes) (inl refl))));
+  job_of_another = λ n c q left another lawful. another (lawful.own c.kept c.asked c.given c.latched q left (inr (refl, refl, refl, refl, refl, refl))).0;
+  reply_of_another = λ n c q left d r right told another lawful. another (lawful.replies c.kept c.asked c.given c.latched (record q { reply = r }) left (inr (refl, refl, refl, refl, refl, refl)) d told);
+  inverse_with_a_deed = λ n c q left bytes right some lawful. some (lawful.silent c.kept c.asked c.given c.latched (record q { deed = bytes }) left (inr (refl, refl, refl, refl, refl, refl)));
   made_again = λ w once twice h. true≢false (h.answer ∙ le-ltb (lsn_of once) (lsn_of once) (omega arith));
 }

@@ -1,7 +1,8 @@
 -- Worked: the laws of levels refuse a level of the store that has one wrong answer more, or notes too little.
-use Rattle.std.specs.Prelude.{◌≡◌, ◌≢◌, ◌⊎◌, ◌<◌, ◌+◌, ◌*◌, ◌^◌, ℕ, true, false, [], ◌∷◌, List, None, Ok, Some}
+use Rattle.std.specs.Prelude.{◌≡◌, ◌≢◌, ◌⊎◌, ◌<◌, ◌+◌, ◌*◌, ◌^◌, ℕ, true, false, [], ◌∷◌, List, None, Ok, Some, length}
 use Rattle.rq_model.specs.declared.record.Record.{Record}
 use Rattle.rq_model.specs.declared.record.Record.TheVariants.{OpEnd, PageOp}
+use Rattle.rq_model.specs.declared.record.Deed.{Deed}
 use Rattle.rq_model.specs.declared.record.Deed.TheVariants.{UnlinkHead, Close}
 use Rattle.rq_model.specs.declared.txn.Txn.{Txn}
 use Rattle.rq_model.specs.Deeds.{deed_by, spelled_deed}
@@ -17,6 +18,7 @@ use Rattle.rq_views.specs.Items.{layout_of}
 use Rattle.rq_views.specs.Log.{Slots, applied}
 use Rattle.rq_level.specs.Asked.{AreAsGiven, AreNoted, IsGathered, Knows, TakesCell, job_back}
 use Rattle.rq_level.specs.Given.{given_at}
+use Rattle.rq_level.specs.Gists.{gist_of}
 use Rattle.rq_level.specs.Lawful.{IsLawful}
 use Rattle.rq_level.specs.LevelState.{LevelState, is_free_slot}
 use Rattle.rq_level.specs.Meaning.{AppliesOnce, AreOf, Meaning, Redo, meaning_of}
@@ -25,6 +27,8 @@ use Rattle.rq_level.specs.TagPlans.{tag_note}
 use Rattle.rq_level.specs.TakenBack.{AreOverHeld, ShowsOf, newest_first}
 use Rattle.rq_level.specs.declared.slots.Given.{Given}
 use Rattle.rq_level.specs.declared.writes.Plan.{Plan}
+use Rattle.rq_level.specs.declared.writes.Replies.{Replies}
+use Rattle.rq_level.specs.declared.writes.Replies.TheVariants as replies
 use Rattle.rq_level.specs.declared.writes.SlotWrite.{SlotWrite}
 
 -- one question to a level: a job, or a record that is to be taken back
@@ -125,5 +129,22 @@ pub record WrongLevels : Type 0 where
       (before after : List ℕ) → IsRightBack 0 c q left → IsButForWrites p q → c.asked ≡ PageOp t n page slot before after
       → p.writes.items ≡ w ∷ [] → w.at ≡ page * 16 + slot → w.after ≡ before → w.before ≢ after
       → IsLawful 0 (also_undoes c p left (meaning_of 0)) → ⊥
+  -- a level of any number writes more than three slots
+  pub four_writes : (n : ℕ) (c : Question Job) (q p : Plan) (left : LevelState) → IsRight n c q left → IsButForWrites p q
+      → 3 < length p.writes.items → IsLawful n (also_plans c p left (meaning_of n)) → ⊥
+  -- it writes over another image than it was given
+  pub another_image : (n : ℕ) (c : Question Job) (q p : Plan) (left : LevelState) (w : SlotWrite) (rest : List SlotWrite)
+      (bytes : List ℕ) → IsRight n c q left → IsButForWrites p q → p.writes.items ≡ w ∷ rest → given_at w.at c.given ≡ Some bytes
+      → w.before ≢ bytes → IsLawful n (also_plans c p left (meaning_of n)) → ⊥
+  -- it plans what another level is asked
+  pub job_of_another : (n : ℕ) (c : Question Job) (q : Plan) (left : LevelState) → c.asked.level ≢ n
+      → IsLawful n (also_plans c q left (meaning_of n)) → ⊥
+  -- it replies with something else than its deed tells
+  pub reply_of_another : (n : ℕ) (c : Question Job) (q : Plan) (left : LevelState) (d : Deed) (r : Replies) → IsRight n c q left
+      → deed_by n q.deed ≡ Some d → r ≢ replies.Deed (gist_of d)
+      → IsLawful n (also_plans c (record q { reply = r }) left (meaning_of n)) → ⊥
+  -- what takes an operation back tells a deed
+  pub inverse_with_a_deed : (n : ℕ) (c : Question Record) (q : Plan) (left : LevelState) (bytes : List ℕ) → IsRightBack n c q left
+      → bytes ≢ [] → IsLawful n (also_undoes c (record q { deed = bytes }) left (meaning_of n)) → ⊥
   -- Of what the redo of every level does: a write is made again on a page that has its LSN. No level has a redo of its own.
   pub made_again : (w : Redo) (once twice : List ℕ) → AppliesOnce (Some w) once (lsn_of once) true twice → ⊥

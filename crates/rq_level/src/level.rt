@@ -47,7 +47,7 @@ pub trait Level: Drop {
     fn outcome(&self, deed: &[u8]) -> Option<Outcome>
         ensures { result ≡ option_map answer_of (deed_by (level self.now) deed.now) };
 
-    /// Whether it keeps anything of the slots that it is told of, but for what slot 1 of the first page tells.
+    /// False only where it keeps nothing of the slots that it is told of, but for what slot 1 of the first page tells.
     fn keeps(&self) -> bool
         ensures { result ≡ false → NotesNothing (meaning_of (level self.now)) };
 
@@ -184,7 +184,7 @@ pub fn levels_are_lawful()
     ensures { AllLawful }
 {}
 
-/// Worked: levels that have one wrong answer more, or note too little, which the laws refuse.
+/// Worked: levels that are right but have one wrong answer more, or note too little, which the laws refuse.
 pub fn wrong_levels_are_refused()
     ensures { WrongLevels }
 {}

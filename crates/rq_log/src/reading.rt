@@ -1,6 +1,7 @@
 //! Reads the records of a device, one after the other.
 ghost use Rattle.std.specs.Prelude.{◌≡◌, ◌≢◌, ◌⊎◌, ◌^◌, ◌<◌, ◌≤◌, ℕ, None, IfOk, IfErr, IfSome, IfNone, OnOk, OnErr, [], drop, length, true, false};
 ghost use Rattle.std.specs.Bool.{OnTrue, OnFalse};
+ghost use Rattle.rq_disk.specs.Device.{FailureIsCounted, Only};
 ghost use Rattle.rq_model.specs.Bases.{is_base, with_next};
 ghost use Rattle.rq_record.specs.Decoding.{IsFront};
 ghost use Rattle.rq_record.specs.Spelling.{IsInRange};
@@ -165,6 +166,21 @@ impl<L: LogDevice> LogReader<L> {
             Ok((record, _)) => Ok(record),
             Err(refusal) => Err(refusal),
         }
+    }
+
+    /// Makes durable what the device reads as, taken or not.
+    ///
+    /// # Errors
+    /// `DiskWrite`: the device failed.
+    pub fn force(&mut self) -> Result<(), Refusal>
+        ensures durable { OnOk result (Only (L.seen self.new.device) (L.may_leave self.new.device)) }
+        ensures err { IfErr result (λ e. e ≡ Refusal.DiskWrite) }
+        ensures cause { FailureIsCounted (L.faults self.old.device) (L.faults self.new.device) result }
+        // Nothing changes, as if the device was read.
+        ensures same { self.new ≡ record self.old { device = self.new.device } }
+        ensures read { IsRead L.LogDevice self.old.device self.new.device }
+    {
+        self.stream.force()
     }
 
     /// Reads the next record, and tells its LSN. `None`: all are read; what is left is no byte, or a proper beginning of a

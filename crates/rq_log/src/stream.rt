@@ -1,6 +1,6 @@
 //! Bytes of a device, from its front on, a window at a time.
 ghost use Rattle.std.specs.Prelude.{◌≡◌, ◌+◌, ◌-◌, ◌<◌, ◌≤◌, ◌++◌, IfOk, IfErr, OnOk, OnErr, length, take, drop, min};
-ghost use Rattle.rq_disk.specs.Device.{FailureIsCounted};
+ghost use Rattle.rq_disk.specs.Device.{FailureIsCounted, Only};
 ghost use Rattle.rq_record.specs.Decoding.{IsFront};
 ghost use Rattle.rq_log.specs.Places.{NoneReadFor};
 ghost use Rattle.rq_log.specs.Reading.{HasMost, HasRoomToRead, IsRead, left_of};
@@ -128,6 +128,23 @@ impl<L: LogDevice> Stream<L> {
         ensures read { IsRead L.LogDevice self.old.device self.new.device }
     {
         record_on(&mut self.device, place)
+    }
+
+    /// Makes durable what the device reads as.
+    ///
+    /// # Errors
+    /// `DiskWrite`: the device failed.
+    pub(crate) fn force(&mut self) -> Result<(), Refusal>
+        ensures durable { OnOk result (Only (L.seen self.new.device) (L.may_leave self.new.device)) }
+        ensures why { IfErr result (λ e. e ≡ Refusal.DiskWrite) }
+        ensures cause { FailureIsCounted (L.faults self.old.device) (L.faults self.new.device) result }
+        ensures same { self.new ≡ record self.old { device = self.new.device } }
+        ensures read { IsRead L.LogDevice self.old.device self.new.device }
+    {
+        match self.device.force() {
+            Ok(()) => Ok(()),
+            Err(_) => Err(Refusal::DiskWrite),
+        }
     }
 
     /// Reads on where fewer bytes than the longest record has are left of what was read.

@@ -7,8 +7,8 @@ ghost use Rattle.rq_planner.specs.Handed.{AreForStores, AreForStores-prop};
 
 use rq_level::{Level, Levels};
 
-/// The levels of a store, of whatever size it may be: one of each number, and any others, each with room for what it keeps
-/// of the greatest store. They were told of nothing yet, or of another store.
+/// The levels of a store, of whatever size it may be: one of each number, and any others. Each has room for what it keeps of the
+/// greatest store. They were told of nothing yet, or of another store.
 #[derive(Drop)]
 pub struct StoreLevels<B: Level> {
     pub levels: Levels<B>,

@@ -34,10 +34,10 @@ use rq_txn::Transactions;
 use std::alloc::Global;
 use std::marker::Model;
 
-/// The levels of a store, with the slots that they are given. What is asked goes to the level that it names, and each level is
-/// told of each slot that is written. Contracts see what each level keeps.
+/// The levels of a store, with the slots that they are given. What is asked goes to the level that it names. Each level that keeps
+/// anything of a slot is told when that is written. Contracts see what each level keeps.
 ///
-/// What a plan chose is given back as soon as it is planned: from the start of the operation on, the latch of its page
+/// The cell that a plan chose is given back as soon as it is planned. From the start of the operation on, the latch of its page
 /// keeps others from choosing it.
 #[derive(Drop)]
 pub struct Planner<B: Level> {
@@ -98,13 +98,13 @@ impl<B: Level> Planner<B> {
         self.levels.noted(at, pages.slot(at).unwrap());
     }
 
-    /// Has an operation planned by its level, from the slots as they are. The plan is put into `plan`. What it chose is given
-    /// back. Whatever the device gave, a plan tells what was asked for, and writes on pages that nobody has latched.
+    /// Has an operation planned by its level, from the slots as they are. The plan is put into `plan`. The cell that it chose is
+    /// given back. Whatever the device gave, a plan tells what was asked for, and writes on pages that nobody has latched.
     ///
     /// # Errors
-    /// `Latched`, exactly where it needs a page that an operation under way has latched, or a cell that only such pages have free;
-    /// of a close or a mark so whatever the device gave. `DiskRead`; `NoMemory`. `Damaged` of a store that is not sound, of what
-    /// may not be done, or where the device has lied.
+    /// `Latched`, exactly where it needs a page that an operation under way has latched, or a cell that only such pages have free.
+    /// Of a close or a mark that is so whatever the device gave. `DiskRead`; `NoMemory`. `Damaged` of a store that is not sound, of
+    /// what may not be done, or where the device has lied.
     pub fn plan<P: PageDevice>(
         &mut self,
         pages: &mut Pages<P>,

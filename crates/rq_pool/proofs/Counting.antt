@@ -1,14 +1,14 @@
 -- Pages that cannot be had are more, with those that have to stay in frames, than there are frames.
-use Rattle.std.proofs.Common.{◌≡◌, ℕ, zero, suc, ◌+◌, cond, ◌<◌, ◌||◌, ◌++◌, nat_eq, nat_lt, Bool, true, false, List, [], ◌∷◌, length, refl, sym, ap, arith, ◌∙◌, inl, inr}
+use Rattle.std.proofs.Common.{◌≡◌, ℕ, zero, suc, ◌+◌, cond, ◌<◌, ◌≤◌, ◌||◌, ◌++◌, nat_eq, nat_lt, Bool, true, false, List, [], ◌∷◌, length, refl, sym, ap, arith, ◌∙◌, inl, inr}
 use Rattle.std.specs.Prelude.{◌↔◌}
 use Rattle.std.specs.List.{slice_index_or, sum_by}
-use Rattle.std.proofs.lemmas.Bool.{cases_Bool, false≢true, true≢false, eqb-true, eq-eqb, or_cases, or_from, or_left, or_right}
+use Rattle.std.proofs.lemmas.Bool.{cases_Bool, cases_eq, false≢true, true≢false, eqb-true, eq-eqb, or_cases, or_from, or_left, or_right}
 use Rattle.std.proofs.lemmas.List.Sums.{sum_by-cons}
 use Rattle.rq_page.specs.Pages.{lsn_of}
 use Rattle.rq_pool.specs.Held.{Held, StandOnce, nothing_held, page_at}
 use Rattle.rq_pool.specs.Pooled.{Pooled, image_at}
 use Rattle.rq_pool.specs.Want.{CannotBeHad, OutnumberFrames, among, distinct, framed_in, has_to_stay, lack, missing, one_unless, spare_for, spare_one, staying}
-use Rattle.rq_pool.proofs.Wants.{framed_here, lacks_none}
+use Rattle.rq_pool.proofs.Wants.{framed_here, lacks_none, lacks_one}
 
 -- 1 where so, else 0
 abbrev one_if : Bool → ℕ
@@ -244,3 +244,53 @@ pub cannot_is_count : {P : Type 0} (old : Pooled P) (forced : ℕ) (ps : List �
 cannot_is_count old forced ps once =
     let by = outnumber_by old forced ps once in
     (λ cannot. omega (arith, by, cannot), λ more. omega (arith, by, more))
+
+-- ---- a frame for each page
+
+-- the pages below one
+abbrev below : ℕ → List ℕ
+below zero = []
+below (suc n) = n ∷ below n
+
+is_below : (n q : ℕ) → q < n → among (below n) q ≡ true
+is_below zero q lt = absurd (omega (arith, lt))
+is_below (suc n) q lt = elim (cases_eq n q) [
+  | inl here ↦ ap (λ (b : Bool). b || among (below n) q) (eq-eqb n q here)
+  | inr other ↦ or_right (nat_eq n q) (among (below n) q) (is_below n q (omega (arith, lt, other)))
+]
+
+not_below : (n q : ℕ) → n ≤ q → among (below n) q ≡ false
+not_below zero q le = refl
+not_below (suc n) q le = elim (cases_Bool (nat_eq n q)) [
+  | inl here ↦ (let same = eqb-true n q here in absurd (omega (arith, le, same)))
+  | inr other ↦ ap (λ (b : Bool). b || among (below n) q) other ∙ not_below n q (omega (arith, le))
+]
+
+below_distinct : (n : ℕ) → distinct (below n) ≡ below n
+below_distinct zero = refl
+below_distinct (suc n) = ap (λ (b : Bool). cond b (distinct (below n)) (n ∷ distinct (below n))) (not_below n n (omega arith)) ∙ ap (λ (l : List ℕ). n ∷ l) (below_distinct n)
+
+below_long : (n : ℕ) → length (below n) ≡ n
+below_long zero = refl
+below_long (suc n) = ap suc (below_long n)
+
+-- frames of which each has one of these pages are as many as there are
+each_among : (xs : List ℕ) (hs : List Held) → ((i : ℕ) → i < length hs → among xs (page_at hs i) ≡ true) → sum_by (λ (h : Held). one_if (among xs h.page)) hs ≡ length hs
+each_among xs [] each = refl
+each_among xs (h ∷ hs) each =
+    let more = sum_by-cons (λ (x : Held). one_if (among xs x.page)) h hs in
+    let one : one_if (among xs h.page) ≡ 1 = ap one_if (each 0 (omega arith)) in
+    let rest = each_among xs hs (λ i lt. each (suc i) (omega (arith, lt))) in
+    omega (arith, more, one, rest)
+
+-- so where there are as many frames as pages, each page stands in one
+pub all_framed : (n : ℕ) (hs : List Held) → StandOnce hs → ((i : ℕ) → i < length hs → page_at hs i < n) → n ≤ length hs → (q : ℕ) → q < n → framed_in hs q ≡ true
+all_framed n hs once high many q lt = elim (cases_Bool (framed_in hs q)) [
+  | inl there ↦ there
+  | inr out ↦
+      let sum : sum_by (λ d. one_if (framed_in hs d)) (below n) ≡ length hs = ap (λ (l : List ℕ). sum_by (λ d. one_if (framed_in hs d)) l) (sym (below_distinct n)) ∙ count_twice (below n) hs (once_by hs once) ∙ each_among (below n) hs (λ i l. is_below n (page_at hs i) (high i l)) in
+      let all = framed_or_not hs (below n) in
+      let long = below_long n in
+      let one : 1 ≤ sum_by (lack hs) (below n) = lacks_one hs q (below n) (is_below n q lt) out in
+      absurd (omega (arith, sum, all, long, one, many))
+]

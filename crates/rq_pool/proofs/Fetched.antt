@@ -174,12 +174,6 @@ module _ {P : Type 0} (g : Ghosts P) where
   reads_then (Ok x) old mid new read same f = reads_on x x old mid new read same f
   reads_then (Err e) old mid new read same f = stops_on e old mid new read same f
 
-  -- where each page stands in a frame, nothing is read
-  pub framed_reads : {X : Type 0} (r : Result X Refusal) (old new : Pooled P) → AreAllFramed old → HasReadFor g old r new → ReadsTruly g old r new
-  framed_reads {X} r old new all f = (inl all, λ failed. unread (subst (λ (x : Result X Refusal). HasReadFor g old x new) failed f)) where
-    unread : HasReadFor {X = X} g old (Err why.DiskRead) new → ⊥
-    unread h = let out = h.refused.0 in out.outside (all out.page out.behind out.within)
-
   -- what is told of a page that was not read
   pub is_unread : {X : Type 0} (n : ℕ) (e : Refusal) (old new : Pooled P) → 1 ≤ n → n < page_count old.sizes → Fetches {X = X} g n old (Err e) new → IsUnread g old e new
   is_unread n why.DiskRead old new low high f = tt

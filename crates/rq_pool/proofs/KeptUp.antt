@@ -160,3 +160,26 @@ kept_after g forced old new n (Err why.DiskWrite) when after changed images size
     kept_written g forced old new n after.0 when.0.changed when.1 sizes images (λ p c. sym (ap (λ (l : List Bool). is_changed l p) changed) ∙ c)
     (λ p was is. absurd (true≢false (sym was ∙ ap (λ (l : List Bool). is_changed l p) (sym changed) ∙ is)))
 kept_after g forced old new n (Err _) when after changed images sizes = absurd when
+
+pub forced_more : {P : Type 0} (g : Ghosts P) (few many : ℕ) (old : Pooled P) (p : ℕ) (c : List ℕ) → few ≤ many → IsForced g few old p c → IsForced g many old p c
+forced_more g few many old p c le f = record { changed = f.changed; is = f.is; lsn = (let low = f.lsn in omega (arith, low, le)) }
+
+-- what is kept up behind fewer records is so behind more
+pub kept_more : {P : Type 0} (g : Ghosts P) (few many : ℕ) (old new : Pooled P) → few ≤ many → IsKeptUp g few old new → IsKeptUp g many old new
+kept_more g few many old new le up = record {
+  sizes = up.sizes;
+  images = up.images;
+  flags = up.flags;
+  changed = λ p c. (let s = up.changed p c in record { was = s.was; same = s.same });
+  written = λ p was is. (let w = up.written p was is in record { lsn = (let low = w.lsn in omega (arith, low, le)); reads = w.reads });
+  others = up.others;
+  honest = up.honest;
+  crash = λ p c may. more p c (up.crash p c may);
+  time = record {
+    later = up.time.later;
+    nothing_else = λ t c before since. ⊎_elim (λ past. inl past) (λ kept. inr (λ p. more p (c p) (kept p))) (up.time.nothing_else t c before since);
+    keeps = up.time.keeps;
+  };
+} where
+  more : (p : ℕ) (c : List ℕ) → MayBeKept g few old p c → MayBeKept g many old p c
+  more p c = ⊎_elim (λ may. inl may) (λ f. inr (forced_more g few many old p c le f))

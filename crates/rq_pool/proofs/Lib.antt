@@ -1,4 +1,5 @@
 pub mod Readings
+pub mod Numbering
 pub mod Counts
 pub mod Tabled
 pub mod Ties
@@ -8,7 +9,7 @@ pub mod Slots
 pub mod Indexes
 pub mod Over
 pub mod Rewritten
-pub mod Dropped
+pub mod Exchanged
 pub mod Growths
 pub mod KeptUp
 pub mod Fetched

@@ -1,5 +1,7 @@
 -- Table and frames stay tied.
 use Rattle.std.proofs.Common.{◌≡◌, ◌≢◌, ℕ, ◌<◌, ◌≤◌, Bool, true, false, List, [], ◌∷◌, length, slice_index_or, slice_set, Option, None, Some, refl, sym, ap, arith, ◌∙◌, inl, inr}
+use Rattle.std.specs.Option.{is_some}
+use Rattle.std.specs.Prelude.{◌↔◌, IsTrue}
 use Rattle.std.proofs.lemmas.Bool.{cases_eq, true≢false}
 use Rattle.std.proofs.lemmas.List.{get_or-set_same, get_or-set_other, length-set}
 use Rattle.rq_pool.specs.Pooled.{image_at, is_changed}
@@ -33,6 +35,13 @@ module _ (images : List (List ℕ)) (changed : List Bool) (places : List (Option
     by : (o : Option ℕ) → place_at places p ≡ o → place_at places p ≡ None
     by None e = e
     by (Some i) e = absurd (out (framed_there p i e))
+
+  -- whether one is named tells whether it stands in one
+  pub stands_in_one : (p : ℕ) → IsTrue (is_some (place_at places p)) ↔ IsFramed frames p
+  stands_in_one p = by (place_at places p) refl where
+    by : (o : Option ℕ) → place_at places p ≡ o → IsTrue (is_some o) ↔ IsFramed frames p
+    by None e = (λ t. absurd (true≢false (sym t)), λ f. absurd (there_framed p e f))
+    by (Some i) e = (λ t. framed_there p i e, λ f. refl)
 
   -- a page that was changed stands in one
   pub changed_framed : (p : ℕ) → is_changed changed p ≡ true → IsFramed frames p

@@ -1,12 +1,11 @@
 -- How pages that are wanted at once are fixed in frames: first those that stand in some, then each other one.
-use Rattle.std.specs.Prelude.{◌≡◌, ◌⊎◌, ℕ, ◌+◌, ◌<◌, ◌≤◌, Bool, true, false, List, [], ◌∷◌, ◌++◌, length, slice_index_or, slice_set}
+use Rattle.std.specs.Prelude.{◌≡◌, ◌⊎◌, ℕ, ◌+◌, ◌-◌, ◌^◌, ◌<◌, ◌≤◌, Bool, true, false, List, length, slice_index_or, slice_set}
 use Rattle.rq_model.specs.declared.refusal.Refusal.{Refusal}
 use Rattle.rq_model.specs.declared.refusal.Refusal.TheVariants as why
 use Rattle.rq_model.specs.declared.refusal.Damage.TheVariants as damage
 use Rattle.rq_disk.specs.Device.PageAsk.{Reads, Writes}
 use Rattle.rq_disk.specs.declared.device.PageDevice.{Ghosts}
 use Rattle.rq_page.specs.Pages.{lsn_of}
-use Rattle.rq_page.specs.Sizes.{page_count}
 use Rattle.rq_pool.specs.Fetching.{HasFailed}
 use Rattle.rq_pool.specs.Held.{Held, IsFramed, IsSetAt, fixed_at, page_at}
 use Rattle.rq_pool.specs.KeptUp.{IsForced, IsKeptUp, IsStill}
@@ -51,6 +50,11 @@ NotBrought g forced page (why.Damaged (damage.Page n)) old new = (IsFramed old.f
     × (g.honest new.device → ⊥) × (g.faults new.device ≡ g.faults old.device)
 NotBrought g forced page _ old new = ⊥
 
+-- why it was not, where some frame has one that may
+abbrev pub NotBroughtIn : {P : Type 0} → Ghosts P → ℕ → Refusal → Pooled P → Pooled P → Type 0
+NotBroughtIn g page why.PoolFull old new = ⊥
+NotBroughtIn g page e old new = NotBrought g (2 ^ 64 - 1) page e old new
+
 -- ---- all of them
 
 -- as many of these pages more stand in frames as fewer frames may give way
@@ -94,14 +98,3 @@ pub record AreHadTo {P : Type 0} (g : Ghosts P) (forced : ℕ) (old new : Pooled
 pub record IsHeldStill {P : Type 0} (old new : Pooled P) : Type 0 where
   pub still : IsStill old new
   pub same : (i : ℕ) → page_at new.frames i ≡ page_at old.frames i
-
--- ---- fewer frames
-
--- the last record of each page of the store is forced
-abbrev pub AreForcedTo : {P : Type 0} → Pooled P → ℕ → Type 0
-AreForcedTo pages forced = (p : ℕ) → p < page_count pages.sizes → lsn_of (image_at pages.images p) ≤ forced
-
--- the last frame is gone
-pub record IsDropped (old new : List Held) : Type 0 where
-  pub last : Held
-  pub is : old ≡ new ++ last ∷ []

@@ -1,5 +1,5 @@
 -- The table of pages, the frames, and how they agree.
-use Rattle.std.specs.Prelude.{◌≡◌, ℕ, suc, ◌<◌, ◌≤◌, Bool, true, List, [], ◌∷◌, length, map, slice_index_or, Option, None, Some}
+use Rattle.std.specs.Prelude.{◌≡◌, ℕ, suc, cond, ◌<◌, ◌≤◌, nat_eq, nat_lt, Bool, true, List, [], ◌∷◌, length, map, slice_index_or, Option, None, Some}
 use Rattle.rq_pool.specs.declared.Entry.{Entry}
 use Rattle.rq_pool.specs.declared.Frame.{Frame}
 use Rattle.rq_pool.specs.Pooled.{image_at, is_changed}
@@ -46,6 +46,16 @@ pages_of frames = map page_in frames
 -- the bytes in a frame
 abbrev pub bytes_at : List (List ℕ) → ℕ → List ℕ
 bytes_at pages i = slice_index_or pages i []
+
+-- Of pages that are put in order into so many frames, and into no frame behind these: the frame of one, and what it has.
+abbrev pub first_place : ℕ → ℕ → Option ℕ
+first_place most page = cond (nat_lt page most) (Some page) None
+
+abbrev pub first_frame : ℕ → ℕ → List Held
+first_frame most page = cond (nat_lt page most) (record { page = page; fixed = nat_eq page 0 } ∷ []) []
+
+abbrev pub first_page : ℕ → ℕ → List ℕ → List (List ℕ)
+first_page most page image = cond (nat_lt page most) (image ∷ []) []
 
 -- Frames that are fixed so, the first of them with page p, each other with the page behind the one before.
 abbrev pub in_order : ℕ → List Bool → List Held

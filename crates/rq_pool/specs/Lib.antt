@@ -3,6 +3,7 @@ pub mod Held
 pub mod Places
 pub mod Frames
 pub mod Indexed
+pub mod Numbered
 pub mod Reading
 pub mod Writing
 pub mod KeptUp

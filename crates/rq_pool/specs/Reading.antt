@@ -66,6 +66,6 @@ StopsFor g (why.Damaged (damage.Page page)) old new = (g.honest new → IsDamage
 StopsFor g _ old new = ⊥
 
 -- the device as it is afterwards
-abbrev pub device_of : {P : Type 0} → Result (Pooled P) (RefusedPages P) → P
-device_of (Ok pages) = pages.device
+abbrev pub device_of : {P N : Type 0} → Result (Pooled P × N) (RefusedPages P) → P
+device_of (Ok read) = read.0.device
 device_of (Err stopped) = stopped.device

@@ -24,7 +24,8 @@ impl<P: PageDevice> Pages<P> {
     /// Has a page be at hand, in a frame or apart. What stands in no frame is read.
     ///
     /// # Errors
-    /// `DiskRead`; `Damaged`, where the device has lied and gave no page of a store.
+    /// `DiskRead`. `Damaged`, where the device has lied: what it gave is no page of the store, or has other free cells or closed
+    /// groups.
     #[inline(always)]
     pub fn look(&mut self, number: u32) -> Result<(), Refusal>
         requires low { 1 ≤ number }

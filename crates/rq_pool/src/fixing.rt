@@ -1,9 +1,9 @@
 //! Pages that an operation has fixed in their frames.
-ghost use Rattle.std.specs.Prelude.{◌≡◌, ◌≢◌, ◌<◌, ◌≤◌, ℕ, List, length, IfErr, IfNone, IfSome, IsOk, OnErr, OnOk, Some, false, slice_set, true};
+ghost use Rattle.std.specs.Prelude.{◌≡◌, ◌≢◌, ◌↔◌, ◌-◌, ◌^◌, ◌<◌, ◌≤◌, ℕ, List, length, IfErr, IfNone, IfSome, IsOk, IsTrue, OnErr, OnOk, Some, false, slice_set, true};
 ghost use Rattle.rq_disk.specs.Device.PageAsk.{Writes};
 ghost use Rattle.rq_page.specs.Sizes.{page_count};
 ghost use Rattle.rq_pool.specs.Fetching.{HasFailed};
-ghost use Rattle.rq_pool.specs.Fixing.{AreHadTo, AreHeld, AreOnWay, AreSetTo, IsFull, IsHad, IsBrought, IsHeldStill, IsLoose, IsSetIn, NotBrought};
+ghost use Rattle.rq_pool.specs.Fixing.{AreHadTo, AreHeld, AreOnWay, AreSetTo, IsFull, IsHad, IsBrought, IsHeldStill, IsLoose, IsSetIn, NotBrought, NotBroughtIn};
 ghost use Rattle.rq_pool.specs.Held.{IsFixed, IsFramed, fixed_at, page_at};
 ghost use Rattle.rq_pool.specs.KeptUp.{IsForced, IsKeptUp, IsStill};
 ghost use Rattle.rq_pool.specs.Pooled.{image_at, is_changed};
@@ -21,9 +21,9 @@ impl<P: PageDevice> Pages<P> {
     /// where they have a change. Nothing is read or written where each of them stands in a frame.
     ///
     /// # Errors
-    /// `PoolFull`, only where those of them that stand in no frame are more than the frames that are not fixed, have none of
-    /// them, and have a page whose LSN is at most `forced`. There it is this, or what a device did: `DiskWrite`, `DiskRead`;
-    /// `Damaged`, where the device has lied. None of them is fixed then.
+    /// `PoolFull`, only where pages in no frame are more than the frames that may give way. These are not fixed, have none of the
+    /// pages, and have a page whose LSN is at most `forced`. There it is this, or what a device did: `DiskWrite`, `DiskRead`;
+    /// `Damaged`, where the device has lied. None of the pages is fixed then.
     pub fn fix_all(&mut self, pages: &[u32], forced: Lsn) -> Result<(), Refusal>
         requires of_store { AreOfStore self.old.sizes pages.now }
         requires free { NoneFixed pages.now self.old.frames }
@@ -46,6 +46,77 @@ impl<P: PageDevice> Pages<P> {
                 Err(refusal)
             }
         }
+    }
+
+    /// Has a page stand in a frame. It is called where no page is fixed and the log is forced up to each page's LSN. So another
+    /// gives way, which is written out where it has a change.
+    ///
+    /// # Errors
+    /// What a device did: `DiskWrite`, `DiskRead`; `Damaged`, where the device has lied.
+    pub fn bring_in(&mut self, number: u32) -> Result<(), Refusal>
+        requires low { 1 ≤ number }
+        requires high { number < page_count self.old.sizes }
+        requires loose { (q : ℕ) → 1 ≤ q → IsFixed self.old.frames q → ⊥ }
+        requires more { 1 < length self.old.frames }
+        ensures framed { OnOk result (IsFramed self.new.frames number) }
+        ensures stood { IsFramed self.old.frames number → IsOk result × (self.new ≡ self.old) }
+        ensures refused { IfErr result (λ e. NotBroughtIn P.PageDevice number e self.old self.new) }
+        ensures counted { OnOk result (P.faults self.new.device ≡ P.faults self.old.device) }
+        ensures loose { (q : ℕ) → 1 ≤ q → IsFixed self.new.frames q → ⊥ }
+        ensures count { length self.new.frames ≡ length self.old.frames }
+        ensures others { (p : ℕ) → p ≢ number → image_at self.new.images p ≡ image_at self.old.images p }
+        ensures kept { IsKeptUp P.PageDevice (2 ^ 64 - 1) self.old self.new }
+    {
+        match place_of(&self.entries, number) {
+            Some(_place) => Ok(()),
+            None => self.exchange(number),
+        }
+    }
+
+    // Has a page that stands in no frame stand in one.
+    fn exchange(&mut self, number: u32) -> Result<(), Refusal>
+        requires low { 1 ≤ number }
+        requires high { number < page_count self.old.sizes }
+        requires outside { IsFramed self.old.frames number → ⊥ }
+        requires loose { (q : ℕ) → 1 ≤ q → IsFixed self.old.frames q → ⊥ }
+        requires more { 1 < length self.old.frames }
+        ensures framed { OnOk result (IsFramed self.new.frames number) }
+        ensures refused { IfErr result (λ e. NotBroughtIn P.PageDevice number e self.old self.new) }
+        ensures counted { OnOk result (P.faults self.new.device ≡ P.faults self.old.device) }
+        ensures loose { (q : ℕ) → 1 ≤ q → IsFixed self.new.frames q → ⊥ }
+        ensures count { length self.new.frames ≡ length self.old.frames }
+        ensures others { (p : ℕ) → p ≢ number → image_at self.new.images p ≡ image_at self.old.images p }
+        ensures kept { IsKeptUp P.PageDevice (2 ^ 64 - 1) self.old self.new }
+    {
+        let forced = self.lsn_at_hand();
+        match self.replace(number, forced) {
+            Ok(()) => {
+                self.hold_page(number, false);
+                Ok(())
+            }
+            Err(refusal) => Err(refusal),
+        }
+    }
+
+    // The LSN of the page in the frame that gives way next, where none is fixed.
+    fn lsn_at_hand(&self) -> Lsn
+        requires loose { (q : ℕ) → 1 ≤ q → IsFixed self.now.frames q → ⊥ }
+        requires more { 1 < length self.now.frames }
+        ensures { (at : ℕ) × IsLoose self.now.images result self.now.frames at }
+    {
+        let mut place = self.hand as usize;
+        if place == 0 || place >= self.frames.len() {
+            place = 1;
+        }
+        self.frames[place].page.lsn()
+    }
+
+    /// Whether a page stands in a frame.
+    pub fn stands(&self, number: u32) -> bool
+        requires { number < page_count self.now.sizes }
+        ensures { IsTrue result ↔ IsFramed self.now.frames number }
+    {
+        place_of(&self.entries, number).is_some()
     }
 
     /// Lets go of pages that were fixed.
@@ -157,8 +228,6 @@ impl<P: PageDevice> Pages<P> {
     pub(crate) fn write_out(&mut self, place: u32, forced: Lsn) -> Result<(), Refusal>
         requires { IsLoose self.old.images forced self.old.frames place }
         ensures clean { OnOk result (is_changed self.new.changed (page_at self.old.frames place) ≡ false) }
-        ensures others { (p : ℕ) → p ≢ page_at self.old.frames place → is_changed self.new.changed p ≡ is_changed self.old.changed p }
-        ensures marks { OnErr result (self.new.changed ≡ self.old.changed) }
         ensures counted { OnOk result (P.faults self.new.device ≡ P.faults self.old.device) }
         ensures refused { IfErr result (λ e. (e ≡ Refusal.DiskWrite) × ((page : ℕ) × (image : List ℕ)
             × IsForced P.PageDevice forced self.new page image

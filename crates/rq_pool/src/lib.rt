@@ -1,7 +1,7 @@
 //! The pages of the store, in frames over their device.
 #![tactic(auto)]
 
-ghost use Rattle.std.specs.Prelude.{◌≡◌, ◌≢◌, ◌↔◌, ◌<◌, ◌≤◌, ◌+◌, ◌/◌, ◌%◌, ℕ, true, false, Err, Ok, IsSome, IsTrue, IfSome, IfNone, IfErr, IfOk, OnOk, length, replicate, slice_set};
+ghost use Rattle.std.specs.Prelude.{◌≡◌, ◌≢◌, ◌↔◌, ◌<◌, ◌≤◌, ◌+◌, ◌/◌, ◌%◌, ℕ, true, false, Err, Ok, IsSome, IsTrue, IfSome, IfNone, IfErr, IfOk, OnOk, length, min, replicate, slice_set};
 ghost use Rattle.std.specs.Bool.{OnFalse};
 ghost use Rattle.rq_page.specs.Sizes.{IsCellAddress, page_count, sender_count, client_count, client_slot_at, directory_at, place_of};
 ghost use Rattle.rq_page.specs.Pages.{IsWritten, lsn_of};
@@ -19,17 +19,18 @@ mod fixing;
 pub mod formatting;
 pub mod frame_count;
 mod frames;
+mod greatest;
 mod growing;
 mod notes;
 mod reading;
-mod shrinking;
 pub mod table;
 mod writing;
 
+use crate::frame_count::FrameCount;
 use crate::frames::{redo_frame, write_slot};
 use crate::notes::{note_cell, note_group};
 use crate::reading::{read_frames, read_superblock};
-use crate::table::{Place, mark, set_image, was_changed};
+use crate::table::{Place, lsn_of_page, mark, set_image, was_changed};
 use crate::writing::write;
 use rq_bitset::Index;
 use rq_disk::{PAGE, PageDevice};
@@ -50,10 +51,13 @@ use std::snapshot::Snapshot;
 pub struct Entry {
     /// Its image, as contracts alone see it.
     pub image: Snapshot<Page>,
+    /// The LSN of its image.
+    pub lsn: Lsn,
     /// Whether it was changed since it was read or written.
     pub changed: bool,
     /// The frame in which it stands.
     pub place: Place,
+    ghost stamp: { lsn ≡ lsn_of image.value },
 }
 
 /// A frame: a page in memory.
@@ -76,9 +80,9 @@ pub enum Written {
     Nothing,
 }
 
-/// The pages of a store. Contracts see the device, the sizes, the images of all pages, of each whether it was changed since it was
-/// read or written, which page stands in each frame and whether it is fixed there, and which one stands apart from them, as it was
-/// read last. The superblock is fixed in its frame for good.
+/// The pages of a store. Contracts see the device, the sizes, and the images of all pages. Of each they see whether it was changed
+/// since it was read or written. They see which page stands in each frame, whether it is fixed there, and which one was read apart
+/// last. The superblock is fixed in its frame for good.
 #[derive(Drop)]
 pub struct Pages<P: PageDevice> {
     device: P,
@@ -134,21 +138,28 @@ pub struct RefusedPages<P> {
 impl<P: PageDevice + Drop> Pages<P> {
     ghost use Rattle.rq_pool.specs.Fetching.{AreAllFramed};
     ghost use Rattle.rq_pool.specs.Held.{IsFixed};
+    ghost use Rattle.rq_pool.specs.Numbered.{AreNumbered};
     ghost use Rattle.rq_pool.specs.Reading.{ArePages, AreSeen, OnlyRead, StopsFor, device_of};
 
-    /// Reads every page, and checks each as it is read: the superblock, then each page's header and slots.
+    /// Reads every page, and checks each as it is read: the superblock, then each page's header and slots. The first stand in so many
+    /// frames beside that of the superblock, and the others in none. Gives the number of each page, too.
     ///
     /// # Errors
     /// `DiskRead`; `Damaged` with the number of the first page that is none of a store's; `NoMemory`, where the superblock
     /// tells the sizes.
-    pub fn load(alloc: Global, mut device: P) -> Result<Pages<P>, RefusedPages<P>>
-        ensures pages { IfOk result (λ pages. ArePages pages.sizes pages.images) }
-        ensures seen { IfOk result (λ pages. P.honest pages.device
-            → AreSeen (P.seen device) pages.images (page_count pages.sizes)) }
-        ensures changed { IfOk result (λ pages. pages.changed ≡ replicate (page_count pages.sizes) false) }
-        ensures framed { IfOk result (λ pages. AreAllFramed pages) }
-        ensures every { IfOk result (λ pages. length pages.frames ≡ page_count pages.sizes) }
-        ensures loose { IfOk result (λ pages. (q : ℕ) → 1 ≤ q → IsFixed pages.frames q → ⊥) }
+    pub fn load(
+        alloc: Global,
+        mut device: P,
+        frames: FrameCount,
+    ) -> Result<(Pages<P>, Vec<u64>), RefusedPages<P>>
+        ensures pages { IfOk result (λ read. ArePages read.0.sizes read.0.images) }
+        ensures seen { IfOk result (λ read. P.honest read.0.device
+            → AreSeen (P.seen device) read.0.images (page_count read.0.sizes)) }
+        ensures changed { IfOk result (λ read. read.0.changed ≡ replicate (page_count read.0.sizes) false) }
+        ensures framed { IfOk result (λ read. page_count read.0.sizes ≤ frames.count + 1 → AreAllFramed read.0) }
+        ensures every { IfOk result (λ read. length read.0.frames ≡ min (page_count read.0.sizes) (frames.count + 1)) }
+        ensures loose { IfOk result (λ read. (q : ℕ) → 1 ≤ q → IsFixed read.0.frames q → ⊥) }
+        ensures numbers { IfOk result (λ read. AreNumbered read.0.sizes read.0.images read.1.items) }
         ensures stopped { IfErr result (λ stopped. StopsFor P.PageDevice stopped.refusal device stopped.device) }
         ensures cause { OnOk result (P.faults (device_of result) ≡ P.faults device) }
         ensures device { OnlyRead P.PageDevice device (device_of result) }
@@ -157,18 +168,21 @@ impl<P: PageDevice + Drop> Pages<P> {
             Ok(first) => first,
             Err(refusal) => return Err(RefusedPages { refusal, device }),
         };
-        match read_frames(alloc, &mut device, &layout, superblock) {
-            Ok((entries, frames, free, closed)) => Ok(Pages {
-                device,
-                layout,
-                entries,
-                frames,
-                hand: 0,
-                apart: None,
-                spare: Page::from_image(&[0; PAGE]),
-                free,
-                closed,
-            }),
+        match read_frames(alloc, &mut device, &layout, superblock, frames.count + 1) {
+            Ok((entries, frames, free, closed, numbers)) => {
+                let pages = Pages {
+                    device,
+                    layout,
+                    entries,
+                    frames,
+                    hand: 0,
+                    apart: None,
+                    spare: Page::from_image(&[0; PAGE]),
+                    free,
+                    closed,
+                };
+                Ok((pages, numbers))
+            }
             Err(refusal) => Err(RefusedPages { refusal, device }),
         }
     }
@@ -196,7 +210,7 @@ impl<P: PageDevice> Pages<P> {
     ghost use Rattle.rq_pool.specs.Writing.{AnswersWhen, DeviceAfter, HasChangeBeyond, IsRedoAt, IsUnwritten, MayHaveSynced, NoChangeBeyond, changed_after};
     ghost use Rattle.rq_pool.specs.Held.{IsFixed, IsFramed, StandOnce};
     ghost use Rattle.rq_pool.specs.Pooled.{AreOver};
-    ghost use Rattle.rq_pool.specs.Fetching.{IsAtHand};
+    ghost use Rattle.rq_pool.specs.Fetching.{AreAllFramed, IsAtHand};
     ghost use Rattle.rq_pool.specs.Want.{CannotBeHad, OutnumberFrames};
     ghost use Rattle.std.specs.Prelude.{List};
 
@@ -219,12 +233,28 @@ impl<P: PageDevice> Pages<P> {
         let _layout = self.layout;
     }
 
+    /// With as many frames as pages, each page stands in one. For proofs: it runs no code.
+    pub fn shows_all(&self)
+        ensures { page_count self.now.sizes ≤ length self.now.frames → AreAllFramed self.now }
+    {
+        let _layout = self.layout;
+    }
+
     /// The layout of the store.
     pub fn layout(&self) -> Layout
         ensures sizes { result ≡ self.now.sizes }
         ensures pool { IsPool self.now.sizes self.now.images }
     {
         self.layout
+    }
+
+    /// The LSN of a page, which need not be at hand. Nothing is read.
+    pub fn lsn(&self, number: u32) -> Lsn
+        requires { number < page_count self.now.sizes }
+        ensures { result ≡ lsn_of (image_at self.now.images number) }
+    {
+        let _layout = self.layout;
+        lsn_of_page(&self.entries, number)
     }
 
     /// A page of the store that is at hand; none where the store has no such page.

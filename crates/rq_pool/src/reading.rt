@@ -1,5 +1,5 @@
 //! Reads the pages of a device.
-ghost use Rattle.std.specs.Prelude.{ℕ, ◌≡◌, ◌↔◌, ◌<◌, ◌≤◌, ◌+◌, ◌%◌, ◌^◌, ◌++◌, ◌∷◌, [], false, length, nat_eq, replicate, IsTrue, IfOk, IfErr, OnOk, Some};
+ghost use Rattle.std.specs.Prelude.{ℕ, ◌≡◌, ◌↔◌, ◌<◌, ◌≤◌, ◌+◌, ◌%◌, ◌^◌, ◌++◌, ◌∷◌, [], false, length, min, nat_eq, replicate, IsTrue, IfOk, IfErr, OnOk, Some};
 ghost use Rattle.std.specs.Bool.{OnTrue};
 ghost use Rattle.rq_page.specs.Sizes.{page_count};
 ghost use Rattle.rq_page.specs.Kinds.{kind_of};
@@ -9,10 +9,12 @@ ghost use Rattle.rq_page.specs.declared.layout.PageKind.TheVariants as kind;
 ghost use Rattle.rq_disk.specs.Device.PageAsk.{Reads};
 ghost use Rattle.rq_pool.specs.Indexed.{AreNotedOn, IsIndex, closed_groups, free_cells};
 ghost use Rattle.rq_pool.specs.Fetching.{HasFailed, NotReadAgain};
-ghost use Rattle.rq_pool.specs.Frames.{AllStand, AreTied, IsFirstFixed, changed_of, frames_of, images_of, pages_of, places_of};
+ghost use Rattle.rq_pool.specs.Frames.{AllStand, AreTied, IsFirstFixed, changed_of, first_frame, first_page, first_place, frames_of, images_of, pages_of, places_of};
 ghost use Rattle.rq_pool.specs.Held.{IsFixed};
+ghost use Rattle.rq_pool.specs.Numbered.{AreNumbered};
 ghost use Rattle.rq_pool.specs.Reading.{OnlyRead, IsSuperblock, IsSoundPage, ArePages, AreSeen, StopsFor};
 
+use crate::greatest::greatest_number;
 use crate::notes::{are_noted, note_page};
 use crate::table::Place;
 use crate::{Entry, Frame};
@@ -42,28 +44,31 @@ pub(crate) fn read_superblock<P: PageDevice>(device: &mut P) -> Result<(Page, La
     }
 }
 
-/// Reads the pages behind the first into frames, and checks each as it is read. Beside the table of them and the frames, which
-/// cells are free and which groups are closed.
+/// Reads the pages behind the first, and checks each as it is read. So many stand in frames, with the first. Beside the table of them and
+/// the frames, which cells are free and which groups are closed, and the number of each page.
 pub(crate) fn read_frames<P: PageDevice>(
     alloc: Global,
     device: &mut P,
     layout: &Layout,
     superblock: Page,
-) -> Result<(Vec<Entry>, Vec<Frame>, Index, Index), Refusal>
+    most: u32,
+) -> Result<(Vec<Entry>, Vec<Frame>, Index, Index, Vec<u64>), Refusal>
     requires superblock { IsSuperblock layout.now superblock }
     requires first { P.honest device.old → superblock ≡ P.seen device.old 0 }
+    requires some { 1 ≤ most }
     ensures ok { IfOk result (λ read. ArePages layout.now (images_of read.0.items)) }
     ensures seen { IfOk result (λ read. P.honest device.new
         → AreSeen (P.seen device.old) (images_of read.0.items) (page_count layout.now)) }
     ensures changed { IfOk result (λ read. changed_of read.0.items ≡ replicate (page_count layout.now) false) }
     ensures tied { IfOk result (λ read. AreTied (images_of read.0.items) (changed_of read.0.items)
         (places_of read.0.items) (frames_of read.1.items) (pages_of read.1.items)) }
-    ensures stand { IfOk result (λ read. AllStand (places_of read.0.items)) }
-    ensures every { IfOk result (λ read. length (frames_of read.1.items) ≡ page_count layout.now) }
+    ensures stand { IfOk result (λ read. page_count layout.now ≤ most → AllStand (places_of read.0.items)) }
+    ensures every { IfOk result (λ read. length (frames_of read.1.items) ≡ min (page_count layout.now) most) }
     ensures first { IfOk result (λ read. IsFirstFixed (frames_of read.1.items)) }
     ensures loose { IfOk result (λ read. (q : ℕ) → 1 ≤ q → IsFixed (frames_of read.1.items) q → ⊥) }
     ensures free { IfOk result (λ read. IsIndex (free_cells layout.now) layout.now (images_of read.0.items) read.2) }
     ensures closed { IfOk result (λ read. IsIndex (closed_groups layout.now) layout.now (images_of read.0.items) read.3) }
+    ensures numbers { IfOk result (λ read. AreNumbered layout.now (images_of read.0.items) read.4.items) }
     ensures cause { OnOk result (P.faults device.new ≡ P.faults device.old) }
     ensures err { IfErr result (λ e. StopsFor P.PageDevice e device.old device.new) }
     ensures device { OnlyRead P.PageDevice device.old device.new }
@@ -72,7 +77,7 @@ pub(crate) fn read_frames<P: PageDevice>(
     let Ok(mut entries) = Vec::with_capacity(alloc, count as usize) else {
         return Err(Refusal::NoMemory);
     };
-    let Ok(mut frames) = Vec::with_capacity(alloc, count as usize) else {
+    let Ok(mut frames) = Vec::with_capacity(alloc, count.min(most) as usize) else {
         return Err(Refusal::NoMemory);
     };
     let Ok(mut free) = Index::new(alloc, layout.cell_slots()) else {
@@ -81,14 +86,18 @@ pub(crate) fn read_frames<P: PageDevice>(
     let Ok(mut closed) = Index::new(alloc, layout.senders()) else {
         return Err(Refusal::NoMemory);
     };
+    let Ok(mut numbers) = vec![in alloc; 0; count as usize] else {
+        return Err(Refusal::NoMemory);
+    };
     let mut page = superblock;
-    add_frame(&mut entries, &mut frames, 0, &page)?;
+    add_page(&mut entries, &mut frames, 0, &page, most)?;
     for number in 1..count {
         read_sound_page(device, layout, number, &mut page)?;
-        add_frame(&mut entries, &mut frames, number, &page)?;
+        add_page(&mut entries, &mut frames, number, &page, most)?;
         note_page(&mut free, &mut closed, layout, &page, number);
+        numbers[number as usize] = greatest_number(layout, number, &page);
     }
-    Ok((entries, frames, free, closed))
+    Ok((entries, frames, free, closed, numbers))
 }
 
 /// Reads a page behind the first once more, over another. It has to be one of a store that the indexes tell of.
@@ -141,26 +150,37 @@ fn read_sound_page<P: PageDevice>(
     }
 }
 
-// Puts a page into a frame more, and into the table. The superblock is fixed in its frame.
-fn add_frame(
+// Puts a page into the table, and into a frame more where so many are not there yet. The superblock is fixed in its frame.
+fn add_page(
     entries: &mut Vec<Entry>,
     frames: &mut Vec<Frame>,
     number: u32,
     page: &Page,
+    most: u32,
 ) -> Result<(), Refusal>
     requires { number < 4294967295 }
     ensures images { OnOk result (images_of entries.new.items ≡ images_of entries.old.items ++ page.now ∷ []) }
     ensures changed { OnOk result (changed_of entries.new.items ≡ changed_of entries.old.items ++ false ∷ []) }
-    ensures places { OnOk result (places_of entries.new.items ≡ places_of entries.old.items ++ Some number ∷ []) }
-    ensures frames { OnOk result (frames_of frames.new.items ≡ frames_of frames.old.items ++ record {
-      page = number;
-      fixed = nat_eq number 0;
-    } ∷ []) }
-    ensures pages { OnOk result (pages_of frames.new.items ≡ pages_of frames.old.items ++ page.now ∷ []) }
+    ensures places { OnOk result (places_of entries.new.items ≡ places_of entries.old.items ++ first_place most number ∷ []) }
+    ensures frames { OnOk result (frames_of frames.new.items ≡ frames_of frames.old.items ++ first_frame most number) }
+    ensures pages { OnOk result (pages_of frames.new.items ≡ pages_of frames.old.items ++ first_page most number page.now) }
     ensures err { IfErr result (λ e. e ≡ Refusal.NoMemory) }
 {
+    if number >= most {
+        let entry = Entry {
+            image: Snapshot::of(page),
+            lsn: page.lsn(),
+            changed: false,
+            place: Place::new(None),
+        };
+        return match entries.push(entry) {
+            Ok(()) => Ok(()),
+            Err(_) => Err(Refusal::NoMemory),
+        };
+    }
     let entry = Entry {
         image: Snapshot::of(page),
+        lsn: page.lsn(),
         changed: false,
         place: Place::new(Some(number)),
     };

@@ -1,9 +1,11 @@
-//! The table of pages: of each its image, as contracts see it, and the frame in which it stands.
+//! The table of pages: of each its image, as contracts see it, its LSN, and the frame in which it stands.
 ghost use Rattle.std.specs.Prelude.{◌≡◌, ◌<◌, IfSome, length, slice_set};
+ghost use Rattle.rq_page.specs.Pages.{lsn_of};
 ghost use Rattle.rq_pool.specs.Frames.{changed_of, images_of, place_at, places_of};
-ghost use Rattle.rq_pool.specs.Pooled.{is_changed};
+ghost use Rattle.rq_pool.specs.Pooled.{image_at, is_changed};
 
 use crate::Entry;
+use rq_model::txn::Lsn;
 use rq_page::page::Page;
 use std::marker::Model;
 use std::snapshot::Snapshot;
@@ -59,6 +61,14 @@ pub(crate) fn place_of(entries: &[Entry], number: u32) -> Option<u32>
     entry.place.frame()
 }
 
+/// The LSN of a page.
+pub(crate) fn lsn_of_page(entries: &[Entry], number: u32) -> Lsn
+    requires { number < length entries.now }
+    ensures { result ≡ lsn_of (image_at (images_of entries.now) number) }
+{
+    entries[number as usize].lsn
+}
+
 /// Whether a page was changed since it was read or written.
 pub(crate) fn was_changed(entries: &[Entry], number: u32) -> bool
     requires { number < length entries.now }
@@ -93,7 +103,7 @@ pub(crate) fn set_place(entries: &mut Vec<Entry>, number: u32, place: Option<u32
     entry.place = Place::new(place);
 }
 
-/// Has this be the image of a page. It takes no bytes.
+/// Has this be the image of a page. Of its bytes the LSN alone is kept.
 pub(crate) fn set_image(entries: &mut Vec<Entry>, number: u32, page: &Page)
     requires { number < length entries.old.items }
     ensures images { images_of entries.new.items ≡ slice_set (images_of entries.old.items) number page.now }
@@ -103,4 +113,5 @@ pub(crate) fn set_image(entries: &mut Vec<Entry>, number: u32, page: &Page)
 {
     let entry = &mut entries[number as usize];
     entry.image = Snapshot::of(page);
+    entry.lsn = page.lsn();
 }

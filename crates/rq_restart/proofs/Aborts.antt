@@ -1,11 +1,10 @@
 -- Undoing lost transactions, record by record.
 use Rattle.std.proofs.Common.{◌≡◌, ◌+◌, ℕ, zero, suc, true, false, not, ◌<◌, List, [], ◌∷◌, ◌++◌, length, take, None, Some, refl, sym, ◌∙◌, ap, subst, arith}
 use Rattle.std.specs.List.{slice_get}
-use Rattle.std.proofs.lemmas.List.{drop_at, take_all}
+use Rattle.std.proofs.lemmas.List.{take_all}
 use Rattle.rq_disk.specs.Device.{Images}
 use Rattle.rq_model.specs.declared.record.Record.{Record}
-use Rattle.rq_model.specs.Bases.{is_base, standing}
-use Rattle.rq_model.proofs.Bases.{added_stand}
+use Rattle.rq_model.specs.Bases.{is_base}
 use Rattle.rq_engine.specs.Earlier.{rebased}
 use Rattle.rq_model.specs.declared.record.Record.TheVariants as records
 use Rattle.rq_model.specs.declared.refusal.Refusal.{Refusal}
@@ -38,24 +37,22 @@ use Rattle.rq_restart.specs.Aborting.{AbortStops, AbortingStops, AbortsBehind, A
 use Rattle.rq_restart.specs.Aborting.Round.{Ends, TakesBack}
 use Rattle.rq_restart.specs.Aborting.IsAborting.{Between, Within}
 use Rattle.rq_restart.specs.Aborting.IsBadStep.{BadDue, BadRecord}
-use Rattle.rq_restart.specs.Repeating.{ArePagesCounted, Belongs, IsRecordRedone, paged, slots_on}
-use Rattle.rq_restart.specs.Undoing.{StepStops}
-use Rattle.rq_log.specs.Spelled.{AreSpelled}
-use Rattle.rq_log.specs.Spelled.{AreAllSpelled}
-use Rattle.rq_log.proofs.Runs.{AreAllSpelled-drop}
+use Rattle.rq_restart.specs.Repeating.{ArePagesCounted, Belongs, IsRecordRedone, Repeats, paged, slots_on}
+use Rattle.rq_store.specs.Fitting.{image_in}
+use Rattle.rq_restart.specs.Undoing.{NamesDevice, StepStops}
 use Rattle.rq_restart.proofs.Repeated.{before_from, counted_more}
 
 -- ---- rounds
 
-join_rounds : (xs ys : List Round) (log : List Record) → after_rounds (xs ++ ys) log ≡ after_rounds xs (after_rounds ys log)
+pub join_rounds : (xs ys : List Round) (log : List Record) → after_rounds (xs ++ ys) log ≡ after_rounds xs (after_rounds ys log)
 join_rounds [] ys log = refl
 join_rounds (x ∷ xs) ys log = ap (after_round x) (join_rounds xs ys log)
 
-join_turns : (xs ys : List Round) (log : List Record) → AreRounds (after_rounds ys log) xs → AreRounds log ys → AreRounds log (xs ++ ys)
+pub join_turns : (xs ys : List Round) (log : List Record) → AreRounds (after_rounds ys log) xs → AreRounds log ys → AreRounds log (xs ++ ys)
 join_turns [] ys log h k = k
 join_turns (x ∷ xs) ys log h k = (subst (λ l. IsNextRound l x) (sym (join_rounds xs ys log)) h.0, join_turns xs ys log h.1 k)
 
-abbrev behind_join : (a b c : List Record) → AbortsBehind a b → AbortsBehind b c → AbortsBehind a c
+abbrev pub behind_join : (a b c : List Record) → AbortsBehind a b → AbortsBehind b c → AbortsBehind a c
 behind_join a b c h k = record {
   rounds = k.rounds ++ h.rounds;
   turns = join_turns k.rounds h.rounds a (subst (λ l. AreRounds l k.rounds) (sym h.are) k.turns) h.turns;
@@ -64,6 +61,14 @@ behind_join a b c h k = record {
 
 abbrev pub behind_none : (log : List Record) → AbortsBehind log log
 behind_none log = record { rounds = []; turns = tt; are = refl }
+
+-- the end of one that is next
+abbrev pub behind_end : (log : List Record) (t : Txn) → IsNextRound log (Ends t) → AbortsBehind log (records.AbortEnd t ∷ log)
+behind_end log t turn = record { rounds = Ends t ∷ []; turns = (turn, tt); are = refl }
+
+-- what is due first is taken back by these writes
+abbrev pub behind_taken : (log now : List Record) (d : PendingUndo) (n : ℕ) (ws : List SlotWrite) → IsTakenNext log d n → with_writes d.txn n ws log ≡ now → AbortsBehind log (comp_end d.txn n d.lsn ∷ now)
+behind_taken log now d n ws next are = record { rounds = TakesBack d n ws ∷ []; turns = (next, tt); are = ap (λ l. comp_end d.txn n d.lsn ∷ l) are }
 
 -- ---- each planned
 
@@ -97,7 +102,7 @@ module _ (z : Sizes) (on : List Record → Images → Type 0) where
 
   -- the end of one that is next
   pub aborts_end : (log : List Record) (t : Txn) → IsNextRound log (Ends t) → AbortsOn z on log (records.AbortEnd t ∷ log)
-  aborts_end log t turn = record { behind = record { rounds = Ends t ∷ []; turns = (turn, tt); are = refl }; planned = tt }
+  aborts_end log t turn = record { behind = behind_end log t turn; planned = tt }
 
   same_join : (a b c : List Record) → AbortsOn z on a b → AbortsOn z on b c → AbortsOn z on a c
   same_join a b c h k = record {
@@ -114,10 +119,7 @@ module _ (z : Sizes) (on : List Record → Images → Type 0) where
   making_aborts log now d n ws next plan m = Within log d n ws m.made (aborts_none log) next plan m.are
 
   pub closing_aborts : (log now : List Record) (d : PendingUndo) (n : ℕ) (ws : List SlotWrite) → IsTakenNext log d n → IsPlannedOn z (on log) d ws → with_writes d.txn n ws log ≡ now → AbortsOn z on log (comp_end d.txn n d.lsn ∷ now)
-  closing_aborts log now d n ws next plan are = record {
-    behind = record { rounds = TakesBack d n ws ∷ []; turns = (next, tt); are = ap (λ l. comp_end d.txn n d.lsn ∷ l) are };
-    planned = (plan, tt);
-  }
+  closing_aborts log now d n ws next plan are = record { behind = behind_taken log now d n ws next are; planned = (plan, tt) }
 
 -- from pages that the log before was repeated on
 module _ (z : Sizes) (a b : List Record) (old mid : Images) (repeated : RepeatedSince z a old b mid) where
@@ -174,13 +176,6 @@ rounds_extend log (r ∷ rs) = round_extends log (after_rounds rs log) r (rounds
 pub aborting_extends : (log now : List Record) → AbortsBehind log now → Extends log now
 aborting_extends log now a = subst (Extends log) a.are (rounds_extend log a.rounds)
 
--- the log before them was spelled
-pub spelled_before : (log now : List Record) → AbortsBehind log now → AreSpelled now → AreSpelled log
-spelled_before log now a h =
-    let e = aborting_extends log now a in
-    let stands : standing now ≡ e.0 ++ standing log = ap standing (sym e.1) ∙ added_stand e.0 log e.2 in
-    subst AreAllSpelled (drop_at e.0 (standing log) (length e.0) refl) (AreAllSpelled-drop (length e.0) (e.0 ++ standing log) (subst AreAllSpelled stands h))
-
 same_writes : (t : Txn) (n : ℕ) (ws : List SlotWrite) (log : List Record) → incarnation_of (with_writes t n ws log) ≡ incarnation_of log
 same_writes t n [] log = refl
 same_writes t n (w ∷ ws) log = same_writes t n ws (page_op t n w ∷ log)
@@ -220,6 +215,12 @@ module _ {P : Type 0} (z : Sizes) (behind : List Record → Type 0) (log : List 
   }
   one_stops _ s way belongs = absurd s
 
+-- a device failed
+pub device_stops : {P : Type 0} (z : Sizes) (behind : List Record → Type 0) (log : List Record) (old : Pooled P) (before : List Record → State → Type 0) (e : Refusal) → NamesDevice e → AbortStops z behind log old before e
+device_stops z behind log old before why.DiskRead names = tt
+device_stops z behind log old before why.DiskWrite names = tt
+device_stops z behind log old before _ names = absurd names
+
 -- what stops behind the one is what stops behind the other
 module _ (z : Sizes) (one other : List Record → Type 0) (j : (l : List Record) → one l → other l) where
   pub bad_weaker : (first : Images) (last : List Record) (lsn : ℕ) → IsBadStep z one first last lsn → IsBadStep z other first last lsn
@@ -238,6 +239,7 @@ module _ {P : Type 0} (z : Sizes) (came : Type 0) (log mid : List Record) (old n
   pub stops_join : (one other : List Record → Type 0) → (came → (l : List Record) → one l → other l) → (e : Refusal) → AbortStops z one mid now between e → AbortStops z other log old before e
   stops_join one other j why.NoMemory s = tt
   stops_join one other j why.DiskRead s = tt
+  stops_join one other j why.DiskWrite s = tt
   stops_join one other j why.LogFull s = record {
     last = s.last;
     aborting = j g.aborting s.last s.aborting;
@@ -252,13 +254,14 @@ module _ {P : Type 0} (z : Sizes) (came : Type 0) (log mid : List Record) (old n
   }
   stops_join one other j _ s = absurd s
 
--- what was so of a store is so still
-pub gone_keeping : {P : Type 0} (z : Sizes) (came : Type 0) (log now : List Record) (old new : Pooled P) (before after : List Record → State → Type 0) → HasGoneOn z came log now old new before after → HasGoneOn z came log now old new before before
-gone_keeping z came log now old new before after g = record { aborting = g.aborting; repeated = g.repeated; counted = g.counted; shown = λ x base k same b. b }
-
--- no record came, and a store of which the one is so is one of which the other is
-pub none_gone : {P : Type 0} (z : Sizes) (log : List Record) (old : Pooled P) (before after : List Record → State → Type 0) → OfStore z before after → HasGoneOn z (Unit {0}) log log old old before after
-none_gone z log old before after f = record { aborting = tt; repeated = λ first h. h; counted = λ h. h; shown = f }
+-- no record came, and the pages are as they were: a store of which the one is so is one of which the other is
+pub alike_gone : {P : Type 0} (z : Sizes) (log now : List Record) (old new : Pooled P) (before after : List Record → State → Type 0) → now ≡ log → new.images ≡ old.images → OfStore z before after → HasGoneOn z (Unit {0}) log now old new before after
+alike_gone z log now old new before after same images f = record {
+  aborting = tt;
+  repeated = λ first h. subst (λ (rs : List Record). Repeats z rs first (paged new)) (sym same) (subst (λ (i : List (List ℕ)). Repeats z log first (image_in i)) (sym images) h);
+  counted = λ h. subst (λ (rs : List Record). ArePagesCounted z (length rs) (paged new)) (sym same) (subst (λ (i : List (List ℕ)). ArePagesCounted z (length log) (image_in i)) (sym images) h);
+  shown = f;
+}
 
 -- nothing was ended or taken back
 pub nothing_gone : {P : Type 0} (z : Sizes) (log : List Record) (old : Pooled P) (before : List Record → State → Type 0) → HasGoneOn z (AbortsFrom z log old log) log log old old before before
@@ -273,8 +276,8 @@ module _ {P : Type 0} (z : Sizes) (log mid : List Record) (old now : Pooled P) (
   aborted_stops e h = stops_join z (AbortsFrom z log old mid) log mid old now (IsShown log old) (IsShown mid now) g (IsAbortingFrom z mid now) (IsAbortingFrom z log old) (λ a l. aborting_join z log mid (paged old) (paged now) g.repeated l a) e h
 
 -- it holds of the stores of which something else is so, where that leads to it
-pub stops_before : {P : Type 0} (z : Sizes) (one other : List Record → Type 0) (log : List Record) (old : Pooled P) (before here : List Record → State → Type 0) (e : Refusal) → ((l : List Record) → one l → other l) → OfStore z before here → AbortStops z one log old here e → AbortStops z other log old before e
-stops_before z one other log old before here e j f s = stops_join z (Unit {0}) log log old old before here (none_gone z log old before here f) one other (λ u. j) e s
+pub stops_before : {P : Type 0} (z : Sizes) (one other : List Record → Type 0) (log : List Record) (old new : Pooled P) (before here : List Record → State → Type 0) (e : Refusal) → ((l : List Record) → one l → other l) → new.images ≡ old.images → OfStore z before here → AbortStops z one log new here e → AbortStops z other log old before e
+stops_before z one other log old new before here e j images f s = stops_join z (Unit {0}) log log old new before here (alike_gone z log log old new before here refl images f) one other (λ u. j) e s
 
 -- of a whole log those that are noted are lost
 pub active_lost : (z : Sizes) (log : List Record) → IsWhole z log → (open_work_of log).active ≡ lost log

@@ -133,10 +133,10 @@ module _ (log rolled_back : List Record) (m : IsRolledBack log rolled_back) (h :
 
   -- why the incarnation was not begun
   pub not_begun : (z : Sizes) (first now_paged : Images) (e : Refusal) (before now : ℕ) (untouched : Type 0) → Repeats z rolled_back first now_paged → ArePlannedFrom z first log rolled_back m → WhereLeft z first log (λ e. IsRecovered z (rebased e log) (rebased e rolled_back))
-      → WasReadAndRedone z log first → BeginsNot e (length rolled_back) last before now untouched → WhyShut z log first e before now untouched
-  not_begun z first now_paged why.NoMemory before now untouched repeated planned recovered was b = b
-  not_begun z first now_paged why.DiskWrite before now untouched repeated planned recovered was b = (b, was)
-  not_begun z first now_paged why.LogFull before now untouched repeated planned recovered was b = (record { undone = m.undone; undoing = m.undoes.undoing; now = rolled_back; aborting = Between (record { behind = m.aborting; planned = planned }); turn = inr m.undoes; none_lost = m.none_lost; full = full; recovering = λ e past left. recovered_on z (rebased e log) (rebased e rolled_back) (recovered e past left) }, was, b.1) where
+      → WasReadAndRedone z log first → BeginsNot e (length rolled_back) last before now untouched → WhyShut z log first e
+  not_begun z first now_paged why.NoMemory before now untouched repeated planned recovered was b = tt
+  not_begun z first now_paged why.DiskWrite before now untouched repeated planned recovered was b = was
+  not_begun z first now_paged why.LogFull before now untouched repeated planned recovered was b = (record { undone = m.undone; undoing = m.undoes.undoing; now = rolled_back; aborting = Between (record { behind = m.aborting; planned = planned }); turn = inr m.undoes; none_lost = m.none_lost; full = full; recovering = λ e past left. recovered_on z (rebased e log) (rebased e rolled_back) (recovered e past left) }, was) where
     full : 2 ^ 50 ≤ length rolled_back
     full = elim b.0 [
       | inl is_full ↦ is_full

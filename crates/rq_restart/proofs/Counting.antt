@@ -1,8 +1,8 @@
 -- What waits of each sender, and what each sender sent and how each client was marked, where nothing is open: as the slots tell.
 use Rattle.std.proofs.Common.{◌≡◌, ℕ, zero, suc, ◌+◌, ◌-◌, ◌/◌, ◌%◌, ◌<◌, ◌≤◌, List, [], ◌∷◌, length, map, get_or, refl, sym, ◌∙◌, ap, subst, Some, inl, inr, arith}
 use Rattle.std.proofs.lemmas.Bool.{cases_lt, cases_eq, le-ltb, lt-ltb}
-use Rattle.std.specs.Prelude.{slice_set}
-use Rattle.std.proofs.lemmas.List.{length-set, get_or-set_same, get_or-set_other, length-map, get_or-map, get_or_past, get_or_append_left, get_or-append_right, ext_get_or}
+use Rattle.std.specs.Prelude.{slice_index, slice_set}
+use Rattle.std.proofs.lemmas.List.{length-set, get_or-set_same, get_or-set_other, length-map, get_or-map, get_or_append_left, get_or-append_right, ext_get_or}
 use Rattle.rq_model.specs.Tests.{below}
 use Rattle.rq_groups.specs.Waiting.{waits, more_waiting}
 use Rattle.rq_groups.proofs.Waits.{length-more_waiting, waits-more_waiting_same, waits-more_waiting_other}
@@ -14,10 +14,10 @@ use Rattle.rq_page.specs.Slots.{Slot, held_in, held_for}
 use Rattle.rq_page.specs.Slots.Slot.{Free, Used, Sender, Client}
 use Rattle.rq_page.specs.Formatted.{count_in, count_for}
 use Rattle.rq_page.proofs.Addresses.{clients_have_slots, senders_have_slots, kind_directory, kind_tags}
-use Rattle.rq_views.specs.Stored.{IsStoreSlot, slot_at, slots_in}
+use Rattle.rq_views.specs.Stored.{slot_at, slots_in}
 use Rattle.rq_pool.proofs.Slots.{slots_here}
 use Rattle.rq_groups.specs.Sent.{SentBy, sent_count, with_last}
-use Rattle.rq_store.specs.Opening.{IsCounted, messages_told, place_slot, sent_told, sent_in_slots, tag_told, waiting_in}
+use Rattle.rq_store.specs.Opening.{IsCounted, messages_told, place_slot, sent_told, sent_in_slots, tag_told}
 use Rattle.rq_store.specs.Sends.{place_count}
 use Rattle.rq_store.specs.Fitting.{image_in}
 use Rattle.rq_store.proofs.Opening.{length_below}
@@ -109,60 +109,44 @@ module _ (z : Sizes) (images : List (List ℕ)) where
   told_tag i = tag_told (slots_in z images (place_slot z i))
 
   -- a slot's count is at most a number that its page is within
-  within_page : (n : ℕ) → ((p : ℕ) → 1 ≤ p → p < page_count z → IsCounted z n p (image_in images p)) → (a : ℕ) → IsStoreSlot z a → a % 16 ≤ 15 → count_in z (a / 16) (slot_at images a) ≤ n
-  within_page n all a store high = (all (a / 16) store.page_low store.page_high).slots (a % 16) store.slot high
-
-  sender_sent : (n : ℕ) → ((p : ℕ) → 1 ≤ p → p < page_count z → IsCounted z n p (image_in images p)) → (s : ℕ) → s < sender_count z → sent_told (directory_of s) ≤ n
-  sender_sent n all s lt =
+  pub sender_within : (n s : ℕ) → s < sender_count z → IsCounted z n (directory_at s / 16) (image_in images (directory_at s / 16)) → sent_told (directory_of s) ≤ n
+  sender_within n s lt counted =
       let place = senders_have_slots z s lt in
       let a : ℕ = directory_at s in
       let is : slots_in z images a ≡ held_in z (a / 16) (slot_at images a) = slots_here z images a place.2 in
       let on : held_in z (a / 16) (slot_at images a) ≡ held_for (Some kind.Directory) (slot_at images a) = ap (λ k. held_for k (slot_at images a)) (kind_directory z (a / 16) place.0 place.1) in
-      let within = within_page n all a (record { page_low = place.0; page_high = omega (arith, place.1); slot = place.2 }) (omega arith) in
-      subst (λ (x : Slot). sent_told x ≤ n) (sym (is ∙ on)) (sent_within z n (a / 16) (slot_at images a) place.0 place.1 within)
+      subst (λ (x : Slot). sent_told x ≤ n) (sym (is ∙ on)) (sent_within z n (a / 16) (slot_at images a) place.0 place.1 (counted.slots (a % 16) place.2 (omega arith)))
 
-  client_marked : (n : ℕ) → ((p : ℕ) → 1 ≤ p → p < page_count z → IsCounted z n p (image_in images p)) → (c : ℕ) → c < client_count z → sent_told (slots_in z images (client_slot_at z c)) ≤ n
-  client_marked n all c lt =
+  pub client_within : (n c : ℕ) → c < client_count z → IsCounted z n (client_slot_at z c / 16) (image_in images (client_slot_at z c / 16)) → sent_told (slots_in z images (client_slot_at z c)) ≤ n
+  client_within n c lt counted =
       let place = clients_have_slots z c lt in
       let a : ℕ = client_slot_at z c in
-      let low = place.0 in
       let is : slots_in z images a ≡ held_in z (a / 16) (slot_at images a) = slots_here z images a place.2 in
       let on : held_in z (a / 16) (slot_at images a) ≡ held_for (Some kind.Tags) (slot_at images a) = ap (λ k. held_for k (slot_at images a)) (kind_tags z (a / 16) place.0 place.1) in
-      let within = within_page n all a (record { page_low = omega (arith, low); page_high = place.1; slot = place.2 }) (omega arith) in
-      subst (λ (x : Slot). sent_told x ≤ n) (sym (is ∙ on)) (marks_within z n (a / 16) (slot_at images a) place.0 place.1 within)
-
-  few_sent : (n : ℕ) → ((p : ℕ) → 1 ≤ p → p < page_count z → IsCounted z n p (image_in images p)) → (i : ℕ) → i < place_count z → told_sent i ≤ n
-  few_sent n all i lt = elim (cases_lt i (sender_count z)) [
-    | inl y ↦ rw (lt-ltb i (sender_count z) y) (sender_sent n all i y)
-    | inr m ↦ rw (le-ltb i (sender_count z) m) (client_marked n all (i - sender_count z) (omega (arith, lt, m)))
-  ]
-
-  -- a list of what is told at each place, read at one, is at most a number that each is at most
-  at_most : (f : ℕ → ℕ) (many n g : ℕ) → ((s : ℕ) → s < many → f s ≤ n) → get_or (map f (below many)) g 0 ≤ n + 1
-  at_most f many n g each =
-      let count : length (map f (below many)) ≡ many = length-map (below many) f ∙ length_below many in
-      elim (cases_lt g many) [
-        | inl lt ↦
-            let there : g < length (below many) = (let a = length_below many in omega (arith, a, lt)) in
-            let is : get_or (map f (below many)) g 0 ≡ f g = get_or-map f (below many) g 0 0 there ∙ ap f (get_or-below many g lt) in
-            let few = each g lt in
-            omega (arith, is, few)
-        | inr past ↦
-            let none : get_or (map f (below many)) g 0 ≡ 0 = get_or_past (map f (below many)) g 0 (omega (arith, count, past)) in
-            omega (arith, none)
-      ]
+      subst (λ (x : Slot). sent_told x ≤ n) (sym (is ∙ on)) (marks_within z n (a / 16) (slot_at images a) place.0 place.1 (counted.slots (a % 16) place.2 (omega arith)))
 
   -- what the slots tell is told of each sender and client, and within the records of the log
-  pub are_told : (n : ℕ) (ws : List ℕ) (sent : SentBy) → ws ≡ waiting_in z images → sent ≡ sent_in_slots z images → ((p : ℕ) → 1 ≤ p → p < page_count z → IsCounted z n p (image_in images p)) → AreTold z images (n + 1) ws sent
-  are_told n ws sent e same all = record {
-    told = e;
-    senders = ap (λ (l : List ℕ). length l) e ∙ (length-map (below (sender_count z)) told ∙ length_below (sender_count z));
-    few = λ g. subst (λ (l : List ℕ). waits l g ≤ n + 1) (sym e) (at_most told (sender_count z) n g (λ s lt. let a = sender_sent n all s lt in let b = waits_were_sent (directory_of s) in omega (arith, a, b)));
-    told_sent = same;
-    counts = ap (λ (x : SentBy). length x.counts) same ∙ (length-map (below (place_count z)) told_sent ∙ length_below (place_count z));
-    tags = ap (λ (x : SentBy). length x.tags) same ∙ (length-map (below (place_count z)) told_tag ∙ length_below (place_count z));
-    few_sent = λ g. subst (λ (x : SentBy). sent_count x g ≤ n + 1) (sym same) (at_most told_sent (place_count z) n g (few_sent n all));
-  }
+  pub are_told : (n : ℕ) (ws : List ℕ) (sent : SentBy) → AreWaitingTo z images (sender_count z) ws → AreSentTo z images (place_count z) sent → ((i : ℕ) → sent_count sent i ≤ n) → AreTold z images n ws sent
+  are_told n ws sent waiting are few = record {
+    told = all_counted told (sender_count z) ws waiting.senders waiting.counted;
+    senders = waiting.senders;
+    few = λ s. elim (cases_lt s (sender_count z)) [
+      | inl lt ↦
+          let a = waiting.counted.told_so s lt in
+          let b = waits_were_sent (directory_of s) in
+          let c : told_sent s ≡ sent_told (directory_of s) = ap (λ at. sent_told (slots_in z images at)) (sender_place z s lt) in
+          let d = are.numbers.told_so s (omega (arith, lt)) in
+          let e = few s in
+          omega (arith, a, b, c, d, e)
+      | inr past ↦ (let none = waiting.counted.rest s past in omega (arith, none))
+    ];
+    told_sent = both sent.counts sent.tags (all_counted told_sent (place_count z) sent.counts are.counts are.numbers) (all_counted told_tag (place_count z) sent.tags are.tags are.last);
+    counts = are.counts;
+    tags = are.tags;
+    few_sent = few;
+  } where
+    both : (xs ys : List ℕ) → xs ≡ (sent_in_slots z images).counts → ys ≡ (sent_in_slots z images).tags → ◌≡◌ {A = SentBy} (record { counts = xs; tags = ys }) (sent_in_slots z images)
+    both xs ys a b = ap (λ (l : List ℕ). let x : SentBy = record { counts = l; tags = ys } in x) a ∙ ap (λ (l : List ℕ). let x : SentBy = record { counts = (sent_in_slots z images).counts; tags = l } in x) b
 
   -- one sender's messages more
   pub one_more_waiting : (n count : ℕ) (ws : List ℕ) → n < sender_count z → count ≡ told n → AreWaitingTo z images n ws → AreWaitingTo z images (n + 1) (more_waiting n count ws)
@@ -185,11 +169,9 @@ module _ (z : Sizes) (images : List (List ℕ)) where
         last = one_told told_tag n tag sent.tags (omega (arith, below, o)) d k.last;
       }
 
-  -- then all is told of all
-  pub all_waiting : (ws : List ℕ) → AreWaitingTo z images (sender_count z) ws → ws ≡ waiting_in z images
-  all_waiting ws k = all_counted told (sender_count z) ws k.senders k.counted
-
-  pub all_sent : (sent : SentBy) → AreSentTo z images (place_count z) sent → sent ≡ sent_in_slots z images
-  all_sent sent k = both sent.counts sent.tags (all_counted told_sent (place_count z) sent.counts k.counts k.numbers) (all_counted told_tag (place_count z) sent.tags k.tags k.last) where
-    both : (xs ys : List ℕ) → xs ≡ (sent_in_slots z images).counts → ys ≡ (sent_in_slots z images).tags → ◌≡◌ {A = SentBy} (record { counts = xs; tags = ys }) (sent_in_slots z images)
-    both xs ys a b = ap (λ (l : List ℕ). let x : SentBy = record { counts = l; tags = ys } in x) a ∙ ap (λ (l : List ℕ). let x : SentBy = record { counts = (sent_in_slots z images).counts; tags = l } in x) b
+-- of one place more no more is told
+pub few_more : (records n number tag : ℕ) (sent : SentBy) → n < length sent.counts → number ≤ records → ((i : ℕ) → sent_count sent i ≤ records) → (i : ℕ) → sent_count (with_last n number tag sent) i ≤ records
+few_more records n number tag sent here low few i = elim (cases_eq i n) [
+  | inl e ↦ (let is : slice_index (slice_set sent.counts n number) i ≡ number = ap (slice_index (slice_set sent.counts n number)) e ∙ get_or-set_same sent.counts n number 0 here in omega (arith, is, low))
+  | inr other ↦ (let is : slice_index (slice_set sent.counts n number) i ≡ slice_index sent.counts i = get_or-set_other sent.counts n i number 0 other in let k = few i in omega (arith, is, k))
+]

@@ -27,8 +27,9 @@ use Rattle.rq_analysis.proofs.Marked.{marked_incarnation, marked_length}
 use Rattle.rq_analysis.proofs.Whole.{whole_logs}
 use Rattle.rq_restart.specs.declared.analysis.Analysis.{Analysis}
 use Rattle.rq_restart.specs.Found.{IsAnalysisOf, analysis_after}
-use Rattle.rq_restart.specs.Refused.{IsBadNext, IsStoppedBehind, IsWanting, NotRepeated}
+use Rattle.rq_restart.specs.Refused.{IsBadNext, IsNotForced, IsStoppedBehind, IsWanting, LacksPage, NotRepeated}
 use Rattle.rq_restart.specs.Repeating.{Belongs, Repeats}
+use Rattle.rq_restart.specs.Undoing.{IsToBeWritten}
 use Rattle.rq_record.specs.Spelling.{IsRecord, spelling}
 use Rattle.rq_restart.specs.Places.{places_after, places_of}
 use Rattle.rq_restart.proofs.Placing.{base_noted}
@@ -120,9 +121,9 @@ module _ {L : Type 0} (g : Ghosts L) (z : Sizes) (first : Images) (old new : L) 
     why = by e not;
     read = read;
   } where
-    by : (x : Refusal) → NotRepeated z front r mid x → StopsFor g x front old new ⊎ (IsWanting g z front mid x old new ⊎ IsBadNext g z front mid x old new)
+    by : (x : Refusal) → NotRepeated z front r mid x → StopsFor g x front old new ⊎ (IsWanting g z front mid x old new ⊎ (IsBadNext g z front mid x old new ⊎ (LacksPage g z front x old new ⊎ IsNotForced g front x old new)))
     by why.NoMemory h = inr (inl (refl, counted, inr (record { newest = r; is_record = is; begins = begins; grown = h })))
-    by (why.Damaged (damage.Record lsn)) h = inr (inr (record {
+    by (why.Damaged (damage.Record lsn)) h = inr (inr (inl (record {
       newest = r;
       is_record = is;
       plain = plain;
@@ -130,8 +131,21 @@ module _ {L : Type 0} (g : Ghosts L) (z : Sizes) (first : Images) (old new : L) 
       told = ap (λ n. why.Damaged (damage.Record n)) h.0;
       bad = h.1;
       counted = counted;
-    }))
+    })))
     by _ h = absurd h
+
+  -- or its page could not be had
+  pub stopped_without : (front : List Record) (r : Record) (page : ℕ) (mid : Images) (e : Refusal) → IsRecord r → AreSpelled front → (g.honest new → BeginsWith (r ∷ front) (g.seen old)) → (g.honest new → BeginsWith front (g.seen old)) → Repeats z front first mid → IsRead g old new → g.faults new ≡ g.faults old
+      → IsToBeWritten z r page → (e ≡ why.DiskRead) ⊎ (e ≡ why.DiskWrite) → IsStoppedBehind g z first e old new
+  stopped_without front r page mid e told are begins before repeated read counted wants is = record {
+    front = front;
+    are_spelled = are;
+    begins = before;
+    mid = mid;
+    repeated = repeated;
+    why = inr (inr (inr (inl (record { newest = r; is_record = told; begins = begins; page = page; wants = wants; is = is; counted = counted }))));
+    read = read;
+  }
 
 -- of a store that was left so, a record of its log belongs behind those before it, as they are read
 pub left_belongs : (z : Sizes) (log front : List Record) (r : Record) (first mid : Images) → is_base r ≡ false → oldest (length (r ∷ front)) log ≡ r ∷ front → length (r ∷ front) ≤ length log → base_lsn front ≡ base_lsn log → IsLeft z first log → Repeats z (marked front) first mid

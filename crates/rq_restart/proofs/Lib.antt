@@ -1,6 +1,4 @@
-pub mod Framing
 pub mod Marking
-pub mod Fewer
 pub mod Going
 pub mod Restarts
 pub mod Parsing
@@ -10,9 +8,17 @@ pub mod Counting
 pub mod Tabled
 pub mod Moments
 pub mod Paths
+pub mod OnWay
+pub mod Standing
+pub mod StandingOver
+pub mod Telling
+pub mod Sounding
 pub mod Undos
+pub mod Continuing
+pub mod GoingOn
 pub mod Begun
 pub mod Lefts
+pub mod Leaving
 pub mod RollingBack
 pub mod Showing
 pub mod Repeated

@@ -1,5 +1,5 @@
 -- The pages of a store that was left as a crash may leave one are read, unless the device fails or memory is wanting.
-use Rattle.std.proofs.Common.{◌≡◌, ℕ, List, sym, ◌∙◌, ap, subst, inl, inr}
+use Rattle.std.proofs.Common.{◌≡◌, ℕ, List, sym, ◌∙◌, ap, subst, inl, inr, ⊎_elim}
 use Rattle.rq_model.specs.declared.record.Record.{Record}
 use Rattle.rq_model.specs.declared.refusal.Refusal.{Refusal}
 use Rattle.rq_model.specs.declared.refusal.Refusal.TheVariants as why
@@ -12,6 +12,7 @@ use Rattle.rq_store.specs.Opening.{IsLeft}
 use Rattle.rq_restart.specs.Restarting.{IsLeftOn, Stops}
 use Rattle.rq_restart.specs.RolledBack.{IsAtBound}
 use Rattle.rq_restart.specs.Refused.{MayBeShut}
+use Rattle.rq_restart.specs.Undoing.{FailsWith, Failures}
 
 -- a superblock tells one size
 pub one_size : (y z : Sizes) (image : List ℕ) → IsSuperblock y image → IsSuperblock z image → y ≡ z
@@ -38,10 +39,10 @@ load_shut g z old new older why.DiskRead log block h = inl h
 load_shut g z old new older (why.Damaged (damage.Page page)) log block h = λ on. sound z (g.seen old) older page block on.left (h.0 on.honest)
 load_shut g z old new older _ log block h = absurd h
 
-pub shut_log : (left there : Type 0) (z y : Sizes) (older : List Record) → (left → there × (y ≡ z)) → (e : Refusal) (before now old new : ℕ) → MayBeShut there y older e old new → Stops left z older e before now old new
-shut_log left there z y older f why.NoMemory before now old new h = tt
-shut_log left there z y older f why.DiskRead before now old new h = inr h
-shut_log left there z y older f why.DiskWrite before now old new h = inr h
-shut_log left there z y older f why.LogFull before now old new h = λ l. let k = f l in subst (λ x. IsAtBound x older) k.1 (h k.0)
-shut_log left there z y older f (why.Damaged d) before now old new h = λ l. h (f l).0
-shut_log left there z y older f _ before now old new h = absurd h
+pub shut_log : (left there : Type 0) (z y : Sizes) (older : List Record) → (left → there × (y ≡ z)) → (e : Refusal) {P : Type 0} (p : Ghosts P) (old new : P) (log : Failures) → FailsWith p old new e log → MayBeShut there y older e → Stops left z older e (p.faults old) (p.faults new) log.before log.now
+shut_log left there z y older f why.NoMemory p old new log fails h = tt
+shut_log left there z y older f why.DiskRead p old new log fails h = ⊎_elim (λ one. inl one.1.once) (λ one. inr one.1) fails
+shut_log left there z y older f why.DiskWrite p old new log fails h = ⊎_elim (λ one. inl one.2.once) (λ one. inr one.1) fails
+shut_log left there z y older f why.LogFull p old new log fails h = λ l. let k = f l in subst (λ x. IsAtBound x older) k.1 (h k.0)
+shut_log left there z y older f (why.Damaged d) p old new log fails h = λ l. h (f l).0
+shut_log left there z y older f _ p old new log fails h = absurd h

@@ -87,12 +87,17 @@ same_head (Base many i) r front rest plain e = absurd (let is : Base many i ≡ 
 same_head x r front rest plain e = (let is : x ≡ r = cc in is, let is : standing front ≡ rest = cc in is)
 
 -- why going through the log stopped is why the store stays shut
-pub stopped_shut : {L : Type 0} (g : Ghosts L) (z : Sizes) (older : List Record) (first : Images) (old new : L) (e : Refusal) → IsReadAs g old new older → IsStoppedBehind g z first e old new → MayBeShut (IsLeft z first older) z older e (g.faults old) (g.faults new)
+pub stopped_shut : {L : Type 0} (g : Ghosts L) (z : Sizes) (older : List Record) (first : Images) (old new : L) (e : Refusal) → IsReadAs g old new older → IsStoppedBehind g z first e old new → MayBeShut (IsLeft z first older) z older e
 stopped_shut g z older first old new e r s = elim s.why [
   | inl stops ↦ by e stops
-  | inr (inl wanting) ↦ subst (λ x. MayBeShut (IsLeft z first older) z older x (g.faults old) (g.faults new)) (sym wanting.0) wanting.1
-  | inr (inr bad) ↦ subst (λ x. MayBeShut (IsLeft z first older) z older x (g.faults old) (g.faults new)) (sym bad.told) (none_bad bad)
+  | inr (inl wanting) ↦ shut why.NoMemory wanting.0 tt
+  | inr (inr (inl bad)) ↦ shut (why.Damaged (damage.Record (length s.front + 1))) bad.told (none_bad bad)
+  | inr (inr (inr (inl lacks))) ↦ ⊎_elim (λ is. shut why.DiskRead is tt) (λ is. shut why.DiskWrite is tt) lacks.is
+  | inr (inr (inr (inr none))) ↦ shut why.DiskWrite none.is tt
 ] where
+  shut : (x : Refusal) → e ≡ x → MayBeShut (IsLeft z first older) z older x → MayBeShut (IsLeft z first older) z older e
+  shut x is = subst (MayBeShut (IsLeft z first older) z older) (sym is)
+
   marks : IsMarked s.front
   marks = follow_marked s.front (repeated_read z s.front first s.mid s.repeated).1
 
@@ -119,11 +124,11 @@ stopped_shut g z older first old new e r s = elim s.why [
             let belongs = left_belongs z older front bad.newest first s.mid bad.plain grows within base left (subst (λ (l : List Record). Repeats z l first s.mid) rest s.repeated) in
             bad.bad (subst (λ (l : List Record). Belongs z l bad.newest s.mid) (sym rest) belongs)
 
-  by : (x : Refusal) → StopsFor g x s.front old new → MayBeShut (IsLeft z first older) z older x (g.faults old) (g.faults new)
+  by : (x : Refusal) → StopsFor g x s.front old new → MayBeShut (IsLeft z first older) z older x
   by why.LogFull h = λ left.
       let more = h.1 r.honest in
       let most = front_within older s.front (g.seen old) more.0 r.are_spelled s.are_spelled r.reads more.2 marks left.whole.based in
       record { now = older; recovering = Undoing (undoing_none older); full = (let few = h.0 in omega (arith, most, few)) }
-  by why.DiskRead h = h
+  by why.DiskRead h = tt
   by (why.Damaged (damage.Record lsn)) h = λ left. no_damage older s.front (g.seen old) r.are_spelled s.are_spelled r.reads (h.1 r.honest)
   by _ h = absurd h

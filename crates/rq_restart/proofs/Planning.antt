@@ -1,5 +1,5 @@
 -- What is due can be planned to be taken back.
-use Rattle.std.proofs.Common.{◌≡◌, ℕ, ◌/◌, ◌<◌, List, [], Some, refl, sym, ◌∙◌, ap, subst, false, arith}
+use Rattle.std.proofs.Common.{◌≡◌, ℕ, ◌/◌, ◌<◌, List, [], Result, Err, Some, refl, sym, ◌∙◌, ap, subst, false, arith}
 use Rattle.rq_model.specs.declared.record.Deed.{Deed}
 use Rattle.rq_model.specs.declared.record.Deed.TheVariants.{Append, UnlinkHead, Close, Mark}
 use Rattle.rq_model.specs.declared.record.Record.{Record}
@@ -26,9 +26,14 @@ use Rattle.rq_sound.proofs.UsedCells.{some_free}
 use Rattle.rq_sound.specs.Inverses.{InverseTakesLowest, MayBeUndone}
 use Rattle.rq_planner.specs.Backs.{CanBeTakenBack, IsRefusedBack, IsTakingBack}
 use Rattle.rq_analysis.specs.declared.dues.PendingUndo.{PendingUndo}
-use Rattle.rq_analysis.specs.Dues.{deed_due}
+use Rattle.rq_analysis.specs.Dues.{deed_due, end_due}
 use Rattle.rq_analysis.specs.Walk.{IsLastOf, ShowsUndone, StandsLast}
+use Rattle.rq_level.specs.Asked.{deed_back}
+use Rattle.rq_disk.specs.declared.device.PageDevice.{Ghosts}
+use Rattle.rq_pool.specs.Fetching.{ReadFails}
+use Rattle.rq_pool.specs.Pooled.{Pooled}
 use Rattle.rq_restart.specs.Aborting.{PlanStops, blamed_on}
+use Rattle.rq_restart.specs.Undoing.{IsOfReads}
 
 -- ---- what a sound store shows to be done last, with nothing under way, can be taken back
 
@@ -108,7 +113,21 @@ module _ (z : Sizes) (q : Slots) (due : PendingUndo) (ws : List SlotWrite) (b : 
   lowest_is = subst (λ (d : Deed). InverseTakesLowest z q [] d ws) (sym (deed_is due b.deed b.reads)) b.lowest
 
 -- and why it plans nothing
-pub why_not_planned : (z : Sizes) (images : List (List ℕ)) (due : PendingUndo) (r : Refusal) → IsRefusedBack z (slots_in z images) (deed_by due.level due.deed) r → PlanStops z images due (blamed_on due.lsn r)
-why_not_planned z images due why.NoMemory f = f
-why_not_planned z images due (why.Damaged x) f = (refl, f)
-why_not_planned z images due _ f = absurd f
+pub why_not_planned : {X : Type 0} (z : Sizes) (images : List (List ℕ)) (due : PendingUndo) (told : Record) → told ≡ end_due due → (r : Refusal) → ((◌≡◌ {A = Result X Refusal} (Err r) (Err why.DiskRead) → ⊥) → IsRefusedBack z (slots_in z images) (deed_back told) r) → PlanStops z images due (blamed_on due.lsn r)
+why_not_planned {X} z images due told is r refused = by r (λ not. subst (λ (x : Record). IsRefusedBack z (slots_in z images) (deed_back x) r) is (refused not)) where
+  by : (e : Refusal) → ((◌≡◌ {A = Result X Refusal} (Err e) (Err why.DiskRead) → ⊥) → IsRefusedBack z (slots_in z images) (deed_by due.level due.deed) e) → PlanStops z images due (blamed_on due.lsn e)
+  by why.NoMemory f = f (λ h. cc h)
+  by why.DiskRead f = tt
+  by (why.Damaged x) f = (refl, f (λ h. cc h))
+  by _ f = absurd (f (λ h. cc h))
+
+-- a read that failed is told of, and no other
+pub blamed_fails : {P : Type 0} (g : Ghosts P) (lsn : ℕ) (e : Refusal) (old new : Pooled P) → ReadFails g e old new → ReadFails g (blamed_on lsn e) old new
+blamed_fails g lsn why.NoMemory old new f = f
+blamed_fails g lsn why.DiskRead old new f = f
+blamed_fails g lsn _ old new f = f
+
+pub blamed_reads : (lsn : ℕ) (e : Refusal) → IsOfReads (blamed_on lsn e)
+blamed_reads lsn why.NoMemory = tt
+blamed_reads lsn why.DiskRead = tt
+blamed_reads lsn _ = tt

@@ -1,5 +1,5 @@
 -- Slots that the write of a record leaves.
-use Rattle.std.proofs.Common.{Result, Ok, Err, IfErr, OnErr, ◌≡◌, ◌≢◌, ℕ, ◌/◌, ◌%◌, ◌≤◌, List, sym, ◌∙◌, ap, subst, inl, inr, arith}
+use Rattle.std.proofs.Common.{◌≡◌, ◌≢◌, ℕ, ◌/◌, ◌%◌, ◌≤◌, List, sym, ◌∙◌, ap, subst, inl, inr, arith}
 use Rattle.std.proofs.lemmas.Bool.{cases_eq, cases_lt}
 use Rattle.rq_model.specs.declared.txn.Txn.{Txn}
 use Rattle.rq_page.specs.Pages.{lsn_of, slot_of}
@@ -7,11 +7,7 @@ use Rattle.rq_page.specs.Sizes.{Sizes, address}
 use Rattle.rq_views.specs.Stored.{IsStoreSlot, slot_at}
 use Rattle.rq_level.specs.declared.writes.SlotWrite.{SlotWrite}
 use Rattle.rq_level.specs.LevelState.{LevelState}
-use Rattle.rq_model.specs.declared.refusal.Refusal.{Refusal}
-use Rattle.rq_disk.specs.declared.device.PageDevice.{Ghosts}
-use Rattle.rq_pool.specs.Fetching.{IsUnread, ReadsTruly}
 use Rattle.rq_pool.specs.Pooled.{Pooled}
-use Rattle.rq_pool.proofs.Fetched.{unread_truly}
 use Rattle.rq_store.specs.Fitting.{ToldWrite, image_in, told_by}
 use Rattle.rq_store.specs.Opening.{IsRedone, Redoes}
 use Rattle.rq_store.specs.Steps.{page_op}
@@ -40,8 +36,3 @@ write_elsewhere z old new t n lsn w r a stands ne = same_bytes z old new (record
 -- pages that are what they were have the cells that they had, and levels that are what they were know them
 pub cells_same : {P : Type 0} (old new : Pooled P) (k now : List LevelState) → new ≡ old → now ≡ k → KnowsCells old.sizes old.images k → KnowsCells new.sizes new.images now
 cells_same {P} old new k now e same h = subst (KnowsCells new.sizes new.images) (sym same) (subst (λ (p : Pooled P). KnowsCells p.sizes p.images k) (sym e) h)
-
--- no page is told as not read where each that was read is the store's
-pub never_unread : {P X : Type 0} (g : Ghosts P) (r : Result X Refusal) (old new : Pooled P) → ReadsTruly g old r new → IfErr r (λ e. IsUnread g old e new) → OnErr r ⊥
-never_unread g (Ok x) old new truly is = tt
-never_unread g (Err e) old new truly is = unread_truly g e old new is truly

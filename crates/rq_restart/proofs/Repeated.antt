@@ -36,7 +36,7 @@ module _ (z : Sizes) (log : List Record) (first : Images) (left : IsLeft z first
     pub based : AllHoldBase z mid log
 
   -- where the Base stands nothing is made of them
-  at_base : (mid : Images) → mid ≡ first → AreUpTo (base_lsn log) mid
+  pub at_base : (mid : Images) → mid ≡ first → AreUpTo (base_lsn log) mid
   at_base mid same = record {
     fits = subst (λ (f : ℕ → List ℕ). FitsUpTo z f log (base_lsn log)) (sym same) (redo_base z log first left.fits left.based);
     based = subst (λ (f : ℕ → List ℕ). AllHoldBase z f log) (sym same) left.based;
@@ -106,8 +106,11 @@ written_within z n k r old new redone sound_write le all p low high = by (told_b
 pub counted_within : (z : Sizes) (n : ℕ) (log : List Record) (r : Record) (old new : Images) → IsRecordRedone z log r old new → length log + 1 ≤ n → ArePagesCounted z n old → ArePagesCounted z n new
 counted_within z n log r old new one le all = written_within z n (length log + 1) r old new one.redone one.belongs.may.write le all
 
+pub counted_over : (z : Sizes) (n m : ℕ) (pages : Images) → n ≤ m → ArePagesCounted z n pages → ArePagesCounted z m pages
+counted_over z n m pages le all p low high = let c = all p low high in record { lsn = (let e = c.lsn in omega (arith, e, le)); slots = λ j a b. (let s = c.slots j a b in omega (arith, s, le)) }
+
 pub counted_longer : (z : Sizes) (count : ℕ) (pages : Images) → ArePagesCounted z count pages → ArePagesCounted z (count + 1) pages
-counted_longer z count pages all p low high = let c = all p low high in record { lsn = (let e = c.lsn in omega (arith, e)); slots = λ j a b. (let s = c.slots j a b in omega (arith, s)) }
+counted_longer z count pages all = counted_over z count (count + 1) pages (omega arith) all
 
 pub written_more : (z : Sizes) (count : ℕ) (r : Record) (old new : Images) → Redoes (told_by r) (count + 1) old new → IsSoundWrite z (count + 1) (told_by r) → ArePagesCounted z count old → ArePagesCounted z (count + 1) new
 written_more z count r old new redone sound all = written_within z (count + 1) (count + 1) r old new redone sound (omega arith) (counted_longer z count old all)

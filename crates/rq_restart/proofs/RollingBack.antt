@@ -1,5 +1,5 @@
 -- What mends a log: operations without an end are undone by pages, and then lost transactions by their inverses.
-use Rattle.std.proofs.Common.{◌≡◌, ◌≢◌, ◌++◌, List, [], ◌∷◌, length, map, Some, None, inl, inr, refl, sym, ◌∙◌, ap, subst, arith}
+use Rattle.std.proofs.Common.{◌≡◌, ◌≢◌, ◌⊎◌, ◌++◌, ℕ, Result, Ok, List, [], ◌∷◌, length, map, Some, None, inl, inr, refl, sym, ◌∙◌, ap, subst, arith}
 use Rattle.rq_disk.specs.Device.{Images}
 use Rattle.rq_model.specs.declared.record.Record.{Record}
 use Rattle.rq_model.specs.declared.refusal.Refusal.{Refusal}
@@ -9,7 +9,13 @@ use Rattle.rq_model.specs.declared.txn.Txn.{Txn}
 use Rattle.rq_model.specs.Incarnations.{incarnation_of}
 use Rattle.rq_model.specs.Unended.{lost}
 use Rattle.rq_page.specs.Sizes.{Sizes}
+use Rattle.rq_pool.specs.Fetching.{HasReadFor, IsReadAsStored, IsUnread}
 use Rattle.rq_pool.specs.Pooled.{IsPool, Pooled}
+use Rattle.rq_pool.proofs.Fetched.{stored_images}
+use Rattle.rq_disk.specs.declared.device.LogDevice as log_device
+use Rattle.rq_disk.specs.declared.device.PageDevice as page_device
+use Rattle.rq_log.specs.Logged.{Logged}
+use Rattle.rq_store.specs.Fitting.{image_in}
 use Rattle.rq_txn.specs.Rows.{Row, found_row}
 use Rattle.rq_engine.specs.Earlier.{rebased}
 use Rattle.rq_store.specs.Opening.{IsLeft}
@@ -41,8 +47,10 @@ use Rattle.rq_restart.specs.Past.{IsPast}
 use Rattle.rq_restart.specs.Aborting.IsOnItsWay.{Between, Within}
 use Rattle.rq_restart.specs.Checked.{IsEnded}
 use Rattle.rq_restart.specs.RolledBack.{IsRolledBackSince, RollbackStops}
-use Rattle.rq_restart.specs.Repeating.{Repeats, paged}
-use Rattle.rq_restart.specs.Undoing.{UndoStops}
+use Rattle.rq_restart.specs.Repeating.{ArePagesCounted, Repeats, paged}
+use Rattle.rq_restart.specs.Standing.{Found, Stands, StandsOver, before}
+use Rattle.rq_restart.specs.Undoing.{AreAsFound, GoesOn, HaveToldTruly, IsOfReads, IsRepeatedOn, NoneFailed, UndoStops}
+use Rattle.rq_restart.proofs.GoingOn.{goes_reading, goes_then, told_behind, told_first}
 use Rattle.rq_restart.proofs.Aborts.{aborting_none, aborting_weaker, bad_weaker, planned_weaker, active_lost}
 use Rattle.rq_restart.proofs.Lefts.{left_undoing}
 use Rattle.rq_restart.proofs.Pasts.{undoing_added, undoing_on, undone_on, work_on}
@@ -76,7 +84,7 @@ module _ {P : Type 0} (z : Sizes) (log undone : List Record) (mid : Pooled P) (u
   abbrev all : List Record
   all = rebased e log
 
-  abbrev then : List Record
+  abbrev pub then : List Record
   then = rebased e undone
 
   past_then : IsPast e undone
@@ -100,7 +108,7 @@ module _ {P : Type 0} (z : Sizes) (log undone : List Record) (mid : Pooled P) (u
   active_there : (open_work_of undone).active ≡ lost then
   active_there = ap (λ (h : OpenWorkView). h.active) (sym (work_on e undone past_then based_then)) ∙ active_lost z then from.whole
 
-  abbrev base : State
+  abbrev pub base : State
   base = lost_store z mid.images then (length then)
 
   module _ (some : IsEnded undone → ⊥) where
@@ -120,10 +128,10 @@ module _ {P : Type 0} (z : Sizes) (log undone : List Record) (mid : Pooled P) (u
       based = up.based;
     }
 
-    sound : IsSound base
+    pub sound : IsSound base
     sound = lost_sound z mid.images then (length then) is_repeated
 
-    shown : IsShown undone mid e base
+    pub shown : IsShown undone mid e base
     shown = (past_then, aborts_come.first z mid.images then (length then))
 
     pub on_its_way : (last : List Record) → IsOnItsWay base last → IsRecovering z all last
@@ -177,6 +185,7 @@ module _ {P : Type 0} (z : Sizes) (log undone : List Record) (mid : Pooled P) (u
 pub undo_rolls_nothing_back : (z : Sizes) (log : List Record) (first : Images) (e : Refusal) → UndoStops z log first e → RollbackStops z log first e
 undo_rolls_nothing_back z log first why.NoMemory s = tt
 undo_rolls_nothing_back z log first why.DiskRead s = tt
+undo_rolls_nothing_back z log first why.DiskWrite s = tt
 undo_rolls_nothing_back z log first why.LogFull s = record { undone = s.undone; undoing = s.undoing; now = s.undone; aborting = aborting_none z (RepeatedFrom z first) s.undone; turn = inl refl; none_lost = λ e. refl; full = s.full; recovering = λ e past left. Undoing (undoing_on e log past left.whole.based s.undone s.undoing) }
 undo_rolls_nothing_back z log first (why.Damaged (damage.Record lsn)) s = inl s
 undo_rolls_nothing_back z log first _ s = absurd s
@@ -184,6 +193,7 @@ undo_rolls_nothing_back z log first _ s = absurd s
 pub abort_rolls_nothing_back : {P : Type 0} (z : Sizes) (log undone : List Record) (mid : Pooled P) → IsUndone log undone → IsPool z mid.images → (IsEnded undone → ⊥) → (first : Images) → Repeats z undone first (paged mid) → (e : Refusal) → AbortingStops z undone mid e → RollbackStops z log first e
 abort_rolls_nothing_back z log undone mid u pool some first repeated why.NoMemory s = tt
 abort_rolls_nothing_back z log undone mid u pool some first repeated why.DiskRead s = tt
+abort_rolls_nothing_back z log undone mid u pool some first repeated why.DiskWrite s = tt
 abort_rolls_nothing_back z log undone mid u pool some first repeated why.LogFull s = record {
   undone = undone;
   undoing = u.undoing;
@@ -216,3 +226,71 @@ rolled_back_since z log undone now old mid new same u in_pool before went ended 
       repeated = λ first b. gone.repeated first (before first b);
       recovered = λ first b e past left. recovered_is z log undone mid u pool first e past left (before first b) now new gone ended none;
     }
+
+-- what a page that was not read tells
+pub unread_rolls_nothing_back : {P : Type 0} (g : page_device.Ghosts P) (z : Sizes) (log : List Record) (first : Images) (e : Refusal) (old new : Pooled P) → IsUnread g old e new → IsReadAsStored g old new → RollbackStops z log first e
+unread_rolls_nothing_back g z log first why.DiskRead old new is stored = tt
+unread_rolls_nothing_back g z log first (why.Damaged (damage.Page n)) old new is stored = absurd (is.1 stored)
+unread_rolls_nothing_back g z log first _ old new is stored = absurd is
+
+pub unread_reads : {P : Type 0} (g : page_device.Ghosts P) (e : Refusal) (old new : Pooled P) → IsUnread g old e new → IsOfReads e
+unread_reads g why.DiskRead old new not = tt
+unread_reads g (why.Damaged (damage.Page n)) old new not = tt
+unread_reads g _ old new not = absurd not
+
+-- all have ended, or some have not
+pub ended_or_not : (log : List Record) → IsEnded log ⊎ (IsEnded log → ⊥)
+ended_or_not log = by (open_work_of log).active where
+  by : (ts : List Txn) → (ts ≡ []) ⊎ (ts ≡ [] → ⊥)
+  by [] = inl refl
+  by (t ∷ ts) = inr (λ e. cc e)
+
+-- a store that stands where its operations are undone, and transactions are not
+module _ {P L : Type 0} (p : page_device.Ghosts P) (l : log_device.Ghosts L) (f : Found P L) (log : List Record) (mid : Pooled P) (now : Logged L) (found : AreAsFound p l f log) (past : IsPast (before p l f) log) (u : IsUndone log now.records) (pool : IsPool mid.sizes mid.images) (so : Stands p l f mid now)
+    (some : IsEnded now.records → ⊥) where
+  in_pool : IsPool f.sizes mid.images
+  in_pool = subst (λ (y : Sizes). IsPool y mid.images) so.sizes pool
+
+  was_left : IsLeft f.sizes f.images (rebased (before p l f) log)
+  was_left = subst (IsLeft f.sizes f.images) (sym found) so.left
+
+  pub stands_over : StandsOver p l f (IsShown now.records mid) mid now
+  stands_over = record {
+    stands = so;
+    base = base f.sizes log now.records mid u in_pool f.images (before p l f) past was_left so.repeated;
+    sound = sound f.sizes log now.records mid u in_pool f.images (before p l f) past was_left so.repeated some;
+    same = refl;
+    is = shown f.sizes log now.records mid u in_pool f.images (before p l f) past was_left so.repeated some;
+    ways = λ last way. subst (λ (read : List Record). IsRecovering f.sizes read last) found (on_its_way f.sizes log now.records mid u in_pool f.images (before p l f) past was_left so.repeated some last way);
+  }
+
+-- operations were undone, and then pages were read
+module _ {P L X : Type 0} (p : page_device.Ghosts P) (l : log_device.Ghosts L) (only_now : (d : L) (c : List ℕ) → l.left_since d (l.moment d) c → l.may_leave d c) (old one two : Pooled P) (log mid : Logged L) (r : Result X Refusal)
+    (goes : GoesOn p l old log.device log.records r one mid.device mid.records) (none : NoneFailed p l old.device log.device one.device mid.device) (repeated : HaveToldTruly p l old one mid.device → IsRepeatedOn old.sizes log.records (paged old) mid.records (paged one)) (read : HasReadFor {X = Unit {0}} p one (Ok tt) two) where
+  pub went : GoesOn {X = Unit {0}} p l old log.device log.records (Ok tt) two mid.device mid.records
+  went = goes_then p l old one two log.device mid.device mid.device log.records mid.records mid.records r (Ok tt) goes none (λ told. (repeated told).repeated) (goes_reading p l only_now one two mid.device mid.records (Ok tt) read tt)
+
+  pub repeated_then : HaveToldTruly p l old two mid.device → IsRepeatedOn old.sizes log.records (paged old) mid.records (paged two)
+  repeated_then told =
+      let images = stored_images p one two read.read (told_behind p l old one two log.device mid.device mid.device log.records mid.records r goes told).0 in
+      subst (λ (i : List (List ℕ)). IsRepeatedOn old.sizes log.records (paged old) mid.records (image_in i)) (sym images) (repeated (told_first p l old one two mid.device mid.device read.read.device.honest (λ h. h) told))
+
+  -- and then transactions were
+  module _ {Y : Type 0} (three : Pooled P) (now : Logged L) (s : Result Y Refusal) (abort : GoesOn p l two mid.device mid.records s three now.device now.records) where
+    pub told_two : HaveToldTruly p l old three now.device → HaveToldTruly p l old two mid.device
+    told_two = told_first p l old two three mid.device now.device abort.pages_honest abort.log_honest
+
+    pub told_three : HaveToldTruly p l old three now.device → HaveToldTruly p l two three now.device
+    told_three = told_behind p l old two three log.device mid.device now.device log.records mid.records (Ok tt) went
+
+    pub all_went : GoesOn p l old log.device log.records s three now.device now.records
+    all_went = goes_then p l old two three log.device mid.device now.device log.records mid.records now.records (Ok tt) s went went.counted (λ told. (repeated_then told).repeated) abort
+
+    -- in whole rounds
+    pub rolled_back : IsUndone log.records mid.records → IsPool two.sizes two.images → (HaveToldTruly p l two three now.device → HasAborted two.sizes mid.records two now.records three) → IsEnded now.records → (IsEnded mid.records → now.records ≡ mid.records) → HaveToldTruly p l old three now.device → IsRolledBackSince old.sizes log.records now.records (paged old) (paged three)
+    rolled_back u pool aborted ended same told = rolled_back_since old.sizes log.records mid.records now.records old two three went.sizes u pool (repeated_then (told_two told)).repeated (aborted (told_three told)) ended same
+
+    pub rolled_back_counted : (HaveToldTruly p l two three now.device → HasAborted two.sizes mid.records two now.records three) → HaveToldTruly p l old three now.device → ArePagesCounted old.sizes (length log.records) (paged old) → ArePagesCounted old.sizes (length now.records) (paged three)
+    rolled_back_counted aborted told counted =
+        subst (λ (z : Sizes). ArePagesCounted z (length now.records) (paged three)) went.sizes
+        ((aborted (told_three told)).counted (subst (λ (z : Sizes). ArePagesCounted z (length mid.records) (paged two)) (sym went.sizes) ((repeated_then (told_two told)).counted counted)))

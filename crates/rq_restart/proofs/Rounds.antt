@@ -1,5 +1,5 @@
 -- The records by which one lost transaction after the other is undone, of a store that is shown.
-use Rattle.std.proofs.Common.{◌≡◌, ℕ, zero, suc, ◌+◌, ◌<◌, ◌≤◌, ◌^◌, nat_eq, true, false, List, [], ◌∷◌, length, map, get_or, Option, Some, None, inl, inr, refl, sym, ◌∙◌, ap, subst, arith}
+use Rattle.std.proofs.Common.{◌≡◌, ℕ, zero, suc, ◌+◌, ◌<◌, ◌≤◌, ◌^◌, nat_eq, true, false, List, [], ◌∷◌, length, take, get_or, Option, Some, None, inl, inr, refl, sym, ◌∙◌, ap, subst, arith}
 use Rattle.std.specs.List.{slice_get}
 use Rattle.std.proofs.lemmas.Bool.{cases_lt, and_parts, or_cases, eqb-true, false≢true}
 use Rattle.std.proofs.lemmas.List.{length-map}
@@ -50,15 +50,19 @@ use Rattle.rq_analysis.proofs.Planning.{due_may, due_reads}
 use Rattle.rq_analysis.proofs.Recovering.{behind}
 use Rattle.rq_analysis.proofs.Walking.{aborts_go_on}
 use Rattle.rq_restart.specs.declared.analysis.Analysis.{Analysis}
-use Rattle.rq_restart.specs.Aborting.{AbortStops, CannotBeTaken, IsAbortingFrom, IsBadStep, IsNotUndone, IsOnItsWay, IsShown, IsShownWithin, IsTakenNext, OfStore, PlanStops, RepeatedSince}
+use Rattle.rq_restart.specs.Aborting.{AbortStops, AbortsFrom, AbortsOn, CannotBeTaken, HasAborted, HasGoneOn, IsAbortingFrom, IsBadStep, IsMaking, IsNotUndone, IsOnItsWay, IsPlannedOn, IsShown, IsShownWithin, IsTakenNext, OfStore, PlanStops, RepeatedSince, with_writes}
+use Rattle.rq_restart.specs.Aborting.IsAborting.{Between as BetweenRounds}
 use Rattle.rq_restart.specs.Aborting.IsBadStep.{BadDue}
 use Rattle.rq_restart.specs.Aborting.IsOnItsWay.{Between, Within}
 use Rattle.rq_restart.specs.Again.{NotToldFor}
 use Rattle.rq_restart.specs.Checked.{IsEnded}
 use Rattle.rq_disk.specs.declared.device.LogDevice.{Ghosts}
+use Rattle.rq_disk.specs.declared.device.PageDevice as page_device
 use Rattle.rq_restart.specs.Found.{IsAnalysisOf}
 use Rattle.rq_restart.specs.Repeating.{Belongs, IsRecordRedone, Repeats, paged}
-use Rattle.rq_restart.proofs.Aborts.{aborting_none, active_lost}
+use Rattle.rq_restart.specs.Undoing.{FailsWith, StepStops, failures}
+use Rattle.rq_restart.proofs.Aborts.{aborting_none, aborts_end, active_lost, alike_gone, closing_aborts, gone_join, making_aborts, one_gone, one_stops, planned_here, stops_before, stops_join}
+use Rattle.rq_restart.proofs.Aborts as aborts
 use Rattle.rq_restart.proofs.DueLists.{nobody_left, one_next, own_stay}
 use Rattle.rq_restart.proofs.Planning.{lowest_is, plan_is, shows_can}
 use Rattle.rq_model.specs.Bases.{marked}
@@ -148,6 +152,17 @@ module _ {P : Type 0} (z : Sizes) (log : List Record) (old : Pooled P) (f : Anal
       subst (λ (p : Pooled P). IsBetween base p.images (records.AbortEnd t ∷ rebased x log)) (sym is) (then x base k same b),
     )
 
+    turn : least_free (dues log) (open_work_of log).active ≡ Some t
+    turn = least_of log f are (Some t) e
+
+    pub end_gone : (new : Pooled P) → new ≡ old → IsRecordRedone z log (records.AbortEnd t) (paged old) (paged new) → HasAborted z log old (records.AbortEnd t ∷ log) new
+    end_gone new is one =
+        one_gone z (AbortsFrom z log old (records.AbortEnd t ∷ log)) log (records.AbortEnd t) old new shown (IsShown (records.AbortEnd t ∷ log) new) (aborts_end z (RepeatedSince z log (paged old)) log t turn) refl one (end_shown new is)
+
+    pub end_stops : (x : Refusal) → StepStops (length log) (Belongs z log (records.AbortEnd t) (paged old)) x → AbortStops z (IsAbortingFrom z log old) log old shown x
+    end_stops x step =
+        one_stops z (IsAbortingFrom z log old) log (records.AbortEnd t) old shown (aborting_none z (RepeatedSince z log (paged old)) log) (BetweenRounds (aborts_end z (RepeatedSince z log (paged old)) log t turn)) x step shown_way end_belongs
+
   -- what is due first
   module _ (d : PendingUndo) (ds : List PendingUndo) (first : f.dues ≡ d ∷ ds) (none : least_free f.dues f.open_work.active ≡ None) where
     first_is : dues log ≡ d ∷ ds
@@ -164,18 +179,6 @@ module _ {P : Type 0} (z : Sizes) (log : List Record) (old : Pooled P) (f : Anal
           let records = b.1.come.records_are in
           let h = chosen_back s sound b.1.come.lost d ds (subst (λ l. least_free (dues l) (lost l) ≡ None) (sym records) (least_is x base k same b None none)) (ap dues records ∙ first_on) in
           (h.0, h.3, h.4.row)
-
-    -- its transaction is lost
-    pub first_lost : OfStore z shown (λ x base. In d.txn f.open_work.active)
-    first_lost x base k same b =
-        let s = newest_store base b.1.stores in
-        let r = row x base k same b in
-        let there : In r.0.txn (lost s.records) = subst (In r.0.txn) b.1.come.lost (in_txns s.rows r.0 r.2) in
-        subst (In d.txn) (ap lost b.1.come.records_are ∙ sym (found_lost x base k same b)) (subst (λ t. In t (lost s.records)) r.1 there)
-      where
-        in_txns : (rows : List Row) (q : Row) → In q rows → In q.txn (map (λ r. r.txn) rows)
-        in_txns [] q i = absurd i
-        in_txns (x ∷ rows) q i = elim i [ inl e ↦ inl (ap (λ (y : Row). y.txn) e) | inr j ↦ inr (in_txns rows q j) ]
 
     -- it can be planned
     pub begin_shown : (ws : List SlotWrite) (n : ℕ) → IsTakingBack z (slots_in z old.images) (deed_by d.level d.deed) ws → n ≡ number_of d.txn f.numbers + 1 → OfStore z shown (IsShownWithin log old d n ws 0)
@@ -209,6 +212,7 @@ module _ {P : Type 0} (z : Sizes) (log : List Record) (old : Pooled P) (f : Anal
 
     pub plan_stops : (e : Refusal) → PlanStops z old.images d e → AbortStops z (IsAbortingFrom z log old) log old shown e
     plan_stops why.NoMemory s = tt
+    plan_stops why.DiskRead s = tt
     plan_stops (why.Damaged (damage.Record lsn)) s = record {
       last = log;
       aborting = aborting_none z (RepeatedSince z log (paged old)) log;
@@ -237,26 +241,8 @@ module _ {P : Type 0} (z : Sizes) (log : List Record) (old : Pooled P) (f : Anal
         omega (arith, many, few, e, low, count, long, same_number)
 
 -- once what was due first is taken back, its transaction, which has nothing more due and no end, ends next
-pub ends_next : (mid : List Record) (f h : Analysis) → IsAnalysisOf h mid → (d : PendingUndo) → least_free (d ∷ h.dues) f.open_work.active ≡ None → h.open_work.active ≡ f.open_work.active → any_due d.txn h.dues ≡ false → In d.txn f.open_work.active
-    → least_free (dues mid) (open_work_of mid).active ≡ Some d.txn
-ends_next mid f h then d none active off there = least_of mid h then (Some d.txn) (ap (least_free h.dues) active ∙ one_next d h.dues f.open_work.active off none there)
-
--- what is due first is taken back, and its transaction has nothing more
-module _ {P : Type 0} (z : Sizes) (log mid : List Record) (old now : Pooled P) (f h : Analysis) (are : IsAnalysisOf f log) (then : IsAnalysisOf h mid) (d : PendingUndo) (first : f.dues ≡ d ∷ h.dues) (none : least_free f.dues f.open_work.active ≡ None)
-    (active : h.open_work.active ≡ f.open_work.active) (off : any_due d.txn h.dues ≡ false) (shown_then : OfStore z (IsShown log old) (IsShown mid now)) where
-  next_is : (x : List Record) (base : State) → IsSound base → base.sizes ≡ z → IsShown log old x base → least_free h.dues h.open_work.active ≡ Some d.txn
-  next_is x base k same b =
-      ap (least_free h.dues) active
-      ∙ one_next d h.dues f.open_work.active off (ap (λ ds. least_free ds f.open_work.active) (sym first) ∙ none) (first_lost z log old f are d h.dues first none x base k same b)
-
-  pub next_belongs : OfStore z (IsShown log old) (λ x base. Belongs z mid (records.AbortEnd d.txn) (paged now))
-  next_belongs x base k same b = end_belongs z mid now h then d.txn (next_is x base k same b) x base k same (shown_then x base k same b)
-
-  pub next_shown : (new : Pooled P) → new ≡ now → OfStore z (IsShown log old) (IsShown (records.AbortEnd d.txn ∷ mid) new)
-  next_shown new is x base k same b = end_shown z mid now h then d.txn (next_is x base k same b) new is x base k same (shown_then x base k same b)
-
-  pub next_way : OfStore z (IsShown log old) (λ e base. IsOnItsWay base (rebased e mid))
-  next_way x base k same b = Between now.images (shown_then x base k same b).1
+pub ends_next : (f h : Analysis) (d : PendingUndo) → least_free (d ∷ h.dues) f.open_work.active ≡ None → h.open_work.active ≡ f.open_work.active → any_due d.txn h.dues ≡ false → In d.txn f.open_work.active → least_free h.dues h.open_work.active ≡ Some d.txn
+ends_next f h d none active off there = ap (least_free h.dues) active ∙ one_next d h.dues f.open_work.active off none there
 
 -- ---- an inverse under way
 
@@ -266,6 +252,11 @@ module _ {P : Type 0} (z : Sizes) (log : List Record) (old : Pooled P) (d : Pend
 
   pub within_way : OfStore z within (λ e base. IsOnItsWay base (rebased e log))
   within_way x base k same i = Within old.images d.txn n d.lsn (deed_due d) ws made i.1
+
+  -- pages with the same images show it
+  pub within_alike : (now : List Record) (new : Pooled P) → now ≡ log → new.images ≡ old.images → OfStore z within (IsShownWithin now new d n ws made)
+  within_alike now new is images x base k same i =
+      subst (λ (rs : List Record). IsShownWithin rs new d n ws made x base) (sym is) (i.0, subst (λ (j : List (List ℕ)). IsWithin base j (rebased x log) d.txn n d.lsn (deed_due d) ws made) (sym images) i.1)
 
   -- its next write
   module _ (w : SlotWrite) (next : slice_get ws made ≡ Some w) (is_slot : IsSlotWrite z w) where
@@ -313,6 +304,50 @@ module _ {P : Type 0} (z : Sizes) (log : List Record) (old : Pooled P) (d : Pend
     subst (λ (p : Pooled P). IsBetween base p.images (comp_end d.txn n d.lsn ∷ rebased x log)) (sym is) (closed x base k i),
   )
 
+-- what is due first is planned to be taken back, over pages that are as they were
+module _ {P : Type 0} (z : Sizes) (log : List Record) (old mid : Pooled P) (f : Analysis) (are : IsAnalysisOf f log) (d : PendingUndo) (ds : List PendingUndo) (first : f.dues ≡ d ∷ ds) (none : least_free f.dues f.open_work.active ≡ None)
+    (ws : List SlotWrite) (n : ℕ) (back : IsTakingBack z (slots_in z old.images) (deed_by d.level d.deed) ws) (number : n ≡ number_of d.txn f.numbers + 1) (images : mid.images ≡ old.images) where
+  abbrev begun : List Record → State → Type 0
+  begun = IsShownWithin log mid d n ws 0
+
+  pub begun_shown : OfStore z (IsShown log old) begun
+  begun_shown x base k same b = within_alike z log old d n ws 0 log mid refl images x base k same (begin_shown z log old f are d ds first none ws n back number x base k same b)
+
+  planned : IsPlannedOn z (RepeatedSince z log (paged old) log) d ws
+  planned = planned_here z log (paged old) d ws back
+
+  next : IsTakenNext log d n
+  next = taken_next z log old f are d ds first none n number
+
+  -- a write of it was not made
+  pub making_stops : (e : Refusal) → AbortStops z (IsMaking d.txn n ws log) log mid begun e → AbortStops z (IsAbortingFrom z log old) log old (IsShown log old) e
+  making_stops e s = stops_before z (IsMaking d.txn n ws log) (IsAbortingFrom z log old) log old mid (IsShown log old) begun e (λ l. making_aborts z (RepeatedSince z log (paged old)) log l d n ws next planned) images begun_shown s
+
+  -- all were
+  module _ (now : List Record) (new : Pooled P) (made : HasGoneOn z (with_writes d.txn n (take (length ws) ws) log ≡ now) log now mid new begun (all_made z now new d n ws)) where
+    abbrev end : Record
+    end = comp_end d.txn n d.lsn
+
+    taken : AbortsOn z (RepeatedSince z log (paged old)) log (end ∷ now)
+    taken = closing_aborts z (RepeatedSince z log (paged old)) log now d n ws next planned (aborts.all_made d.txn n ws log now made.aborting)
+
+    pub made_gone : HasGoneOn z (with_writes d.txn n (take (length ws) ws) log ≡ now) log now old new (IsShown log old) (all_made z now new d n ws)
+    made_gone = gone_join z (Unit {0}) log log old mid (IsShown log old) begun (alike_gone z log log old mid (IsShown log old) begun refl images begun_shown) (with_writes d.txn n (take (length ws) ws) log ≡ now) (with_writes d.txn n (take (length ws) ws) log ≡ now) now new (all_made z now new d n ws) (λ u x. x) made
+
+    -- its end was not
+    pub closing_stops : (e : Refusal) → StepStops (length now) (Belongs z now end (paged new)) e → AbortStops z (IsAbortingFrom z log old) log old (IsShown log old) e
+    closing_stops e step =
+        let here : AbortStops z (IsAbortingFrom z log old) now new (all_made z now new d n ws) e =
+        one_stops z (IsAbortingFrom z log old) now end new (all_made z now new d n ws) (making_aborts z (RepeatedSince z log (paged old)) log now d n ws next planned (record { made = length ws; are = made.aborting })) (BetweenRounds taken) e step (within_way z now new d n ws (length ws)) (close_belongs z now new d n ws) in
+        stops_join z (with_writes d.txn n (take (length ws) ws) log ≡ now) log now old new (IsShown log old) (all_made z now new d n ws) made_gone (IsAbortingFrom z log old) (IsAbortingFrom z log old) (λ m l k. k) e here
+
+    -- it was
+    pub closed_gone : (last : Pooled P) → last ≡ new → IsRecordRedone z now end (paged new) (paged last) → HasGoneOn z (AbortsFrom z log old (end ∷ now)) now (end ∷ now) new last (all_made z now new d n ws) (IsShown (end ∷ now) last)
+    closed_gone last same one = one_gone z (AbortsFrom z log old (end ∷ now)) now end new last (all_made z now new d n ws) (IsShown (end ∷ now) last) taken refl one (close_shown z now new d n ws last same)
+
+    pub taken_gone : (last : Pooled P) → last ≡ new → IsRecordRedone z now end (paged new) (paged last) → HasAborted z log old (end ∷ now) last
+    taken_gone last same one = gone_join z (with_writes d.txn n (take (length ws) ws) log ≡ now) log now old new (IsShown log old) (all_made z now new d n ws) made_gone (AbortsFrom z log old (end ∷ now)) (AbortsFrom z log old (end ∷ now)) (end ∷ now) last (IsShown (end ∷ now) last) (λ m x. x) (closed_gone last same one)
+
 -- ---- what is found behind a record
 
 -- as a loop finds it
@@ -352,3 +387,9 @@ told_stops z log old f are g was now lsn why.LogFull n h = record { last = log; 
 told_stops z log old f are g was now lsn why.DiskRead n h = tt
 told_stops z log old f are g was now lsn (why.Damaged (damage.Record m)) n h = absurd (n.2 h)
 told_stops z log old f are g was now lsn _ n h = absurd n
+
+pub told_fails : {P L : Type 0} (p : page_device.Ghosts P) (g : Ghosts L) (pages : P) (was now : L) (lsn count : ℕ) (e : Refusal) → NotToldFor g e lsn count was now → FailsWith p pages pages e (failures g.faults was now)
+told_fails p g pages was now lsn count why.LogFull n = (refl, n.1)
+told_fails p g pages was now lsn count why.DiskRead n = inr (refl, n)
+told_fails p g pages was now lsn count (why.Damaged (damage.Record m)) n = (refl, n.1)
+told_fails p g pages was now lsn count _ n = absurd n

@@ -1,18 +1,24 @@
 -- Tables that are filled from slots, the page of each slot being read for it.
-use Rattle.std.proofs.Common.{◌≡◌, ℕ, zero, suc, ◌+◌, ◌-◌, ◌/◌, ◌%◌, ◌<◌, ◌≤◌, nat_lt, cond, List, Result, refl, sym, ◌∙◌, ap, subst, inl, inr, arith}
-use Rattle.std.proofs.lemmas.Bool.{cases_eq, cases_lt}
+use Rattle.std.proofs.Common.{◌≡◌, ℕ, zero, suc, ◌+◌, ◌-◌, ◌/◌, ◌%◌, ◌<◌, ◌≤◌, nat_lt, cond, List, Result, Err, ◌⊎◌, ⊎_elim, refl, sym, ◌∙◌, ap, subst, inl, inr, arith}
+use Rattle.std.proofs.lemmas.Bool.{cases_eq, cases_lt, false≢true}
 use Rattle.rq_model.specs.declared.refusal.Refusal.{Refusal}
+use Rattle.rq_model.specs.declared.refusal.Refusal.TheVariants as why
+use Rattle.rq_model.specs.declared.refusal.Damage.TheVariants as damage
 use Rattle.rq_disk.specs.declared.device.PageDevice.{Ghosts}
 use Rattle.rq_page.specs.Pages.{slot_of}
-use Rattle.rq_page.specs.Sizes.{Sizes, client_slot_at, directory_at, sender_count, tags_from}
+use Rattle.rq_page.specs.Sizes.{Sizes, client_slot_at, directory_at, page_count, sender_count, tags_from}
 use Rattle.rq_page.specs.Slots.{held_in}
 use Rattle.rq_page.specs.Slots.Slot.{Free}
 use Rattle.rq_views.specs.Stored.{slots_in}
 use Rattle.rq_pool.specs.Pooled.{Pooled, image_at}
-use Rattle.rq_pool.specs.Fetching.{Fetches, IsAtHand}
+use Rattle.rq_pool.specs.Fetching.{Fetches, IsAtHand, IsReadAsStored, MayHaveRead}
+use Rattle.rq_pool.proofs.Fetched.{stored_after, stored_before, stored_images}
 use Rattle.rq_groups.specs.Sent.{SentBy}
-use Rattle.rq_store.specs.Opening.{messages_told, place_slot, sent_told, tag_told}
-use Rattle.rq_restart.specs.Tables.{AreSentTo, AreWaitingTo, IsToldTo}
+use Rattle.rq_store.specs.Fitting.{image_in}
+use Rattle.rq_store.specs.Opening.{IsCounted, messages_told, place_slot, sent_told, tag_told}
+use Rattle.rq_restart.specs.Repeating.{ArePagesCounted, paged}
+use Rattle.rq_restart.specs.Tables.{AreSentTo, AreWaitingTo, IsToldTo, NotTabled}
+use Rattle.rq_restart.specs.Undoing.{IsOfReads}
 use Rattle.rq_restart.proofs.Counting.{client_place, sender_place}
 
 -- what is told of the first n is so of what tells the same of these
@@ -90,3 +96,43 @@ module _ (z : Sizes) where
     -- a sender's place is its directory slot
     pub of_senders : n ≤ sender_count z → ((i : ℕ) → i < n → slots_in z new (place_slot z i) ≡ slots_in z old (place_slot z i)) → (s : ℕ) → s < n → slots_in z new (directory_at s) ≡ slots_in z old (directory_at s)
     of_senders few same s lt = subst (λ (a : ℕ). slots_in z new a ≡ slots_in z old a) (sender_place z s (omega (arith, few, lt))) (same s lt)
+
+-- ---- why a table was not filled
+
+module _ {P : Type 0} (g : Ghosts P) (records : ℕ) where
+  -- a page was not read
+  pub unfetched_tabled : {X : Type 0} (n : ℕ) (e : Refusal) (old new : Pooled P) → 1 ≤ n → n < page_count old.sizes → Fetches {X = X} g n old (Err e) new → NotTabled g records old e new
+  unfetched_tabled n why.DiskRead old new low high f = tt
+  unfetched_tabled n (why.Damaged (damage.Page m)) old new low high f = (
+    subst (λ (q : ℕ). 1 ≤ q) (sym f.refused.0) low,
+    subst (λ (q : ℕ). q < page_count old.sizes) (sym f.refused.0) high,
+    λ stored counted. ⊎_elim (λ all. false≢true (f.stood (inl (all n low high))).0) (λ h. f.refused.1 h) stored,
+  )
+  unfetched_tabled n _ old new low high f = absurd f.refused
+
+  -- it has a number beyond the records
+  pub beyond_tabled : (n : ℕ) (old new : Pooled P) → 1 ≤ n → n < page_count old.sizes → MayHaveRead g old new → (IsCounted old.sizes records n (paged new n) → ⊥) → NotTabled g records old (why.Damaged (damage.Page n)) new
+  beyond_tabled n old new low high read beyond = (low, high, λ stored counted. beyond (subst (λ (i : List (List ℕ)). IsCounted old.sizes records n (image_in i n)) (sym (stored_images g old new read stored)) counted))
+
+  -- some were read before
+  pub tabled_then : (e : Refusal) (old mid new : Pooled P) → MayHaveRead g old mid → MayHaveRead g mid new → NotTabled g records mid e new → NotTabled g records old e new
+  tabled_then why.DiskRead old mid new one two is = tt
+  tabled_then (why.Damaged (damage.Page n)) old mid new one two is = (
+    is.0,
+    subst (λ (z : Sizes). n < page_count z) (one.kept 0).sizes is.1,
+    λ stored counted. is.2 (stored_after g old mid new one stored)
+        (subst (λ (z : Sizes). IsCounted z records n (paged mid n)) (sym (one.kept 0).sizes)
+        (subst (λ (i : List (List ℕ)). IsCounted old.sizes records n (image_in i n)) (sym (stored_images g old mid one (stored_before g old mid new two stored))) counted)),
+  )
+  tabled_then _ old mid new one two is = absurd is
+
+  -- so memory was wanting, or a read failed, where none has
+  pub tabled_stops : (e : Refusal) (old new : Pooled P) → NotTabled g records old e new → IsReadAsStored g old new → ArePagesCounted old.sizes records (paged old) → (e ≡ why.NoMemory) ⊎ (e ≡ why.DiskRead)
+  tabled_stops why.DiskRead old new is stored counted = inr refl
+  tabled_stops (why.Damaged (damage.Page n)) old new is stored counted = absurd (is.2 stored (counted n is.0 is.1))
+  tabled_stops _ old new is stored counted = absurd is
+
+  pub tabled_reads : (e : Refusal) (old new : Pooled P) → NotTabled g records old e new → IsOfReads e
+  tabled_reads why.DiskRead old new is = tt
+  tabled_reads (why.Damaged (damage.Page n)) old new is = tt
+  tabled_reads _ old new is = absurd is

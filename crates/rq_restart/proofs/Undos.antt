@@ -9,11 +9,8 @@ use Rattle.rq_model.specs.declared.refusal.Damage.TheVariants as damage
 use Rattle.rq_model.specs.declared.txn.Sub.{Sub}
 use Rattle.rq_model.specs.Vocabulary.{In, first}
 use Rattle.rq_page.specs.Sizes.{Sizes}
-use Rattle.rq_pool.specs.Pooled.{Pooled}
 use Rattle.rq_disk.specs.declared.device.LogDevice.{Ghosts}
-use Rattle.rq_log.specs.Logged.{Logged}
 use Rattle.rq_log.specs.Reading.{IsRead}
-use Rattle.rq_log.proofs.Keeping.{read_twice}
 use Rattle.rq_log.proofs.Moments.{started}
 use Rattle.rq_record.specs.Spelling.{IsInRange, IsSlotNumber, IsTxnInRange}
 use Rattle.rq_model.specs.Bases.{is_base}
@@ -29,12 +26,11 @@ use Rattle.rq_analysis.specs.Pages.{IsNextUndo, IsUndoing, IsUndoneNext, undo_of
 use Rattle.rq_analysis.specs.Pages.IsNextUndo.{Voids, Undoes}
 use Rattle.rq_analysis.proofs.Lists.{in_undoable, in_with, in_without, sub_in}
 use Rattle.rq_analysis.proofs.Stacks.{in_newest}
-use Rattle.rq_analysis.proofs.Undos.{undo_leaves_less, undoing_more}
+use Rattle.rq_analysis.proofs.Undos.{undo_leaves_less}
 use Rattle.rq_restart.specs.Again.{IsLike, IsLikeUndo, NextNotUndoneFor}
 use Rattle.rq_restart.specs.Found.{MayComeNext}
 use Rattle.rq_restart.specs.Repeating.{ArePagesCounted, Belongs, IsRecordRedone, Repeats}
-use Rattle.rq_restart.proofs.Marking.{marked_twice, same_marked}
-use Rattle.rq_restart.specs.Undoing.{HandsOverNothing, StepStops, UndoStops}
+use Rattle.rq_restart.specs.Undoing.{HasUndoLeft, IsRepeatedOn, NamesDevice, StepStops, UndoStops}
 use Rattle.rq_restart.proofs.Repeated.{before_from, counted_more}
 
 -- what a log's records say is in range, and so is what is noted of them
@@ -74,6 +70,13 @@ pub undo_is_no_base : (h : OpenWorkView) (r : Record) → IsNextUndo h r → is_
 undo_is_no_base h r (Voids o spent least e) = ap is_base e
 undo_is_no_base h r (Undoes p ps none first e) = ap is_base e
 
+like_no_base : (q r : Record) → IsLike q r → is_base q ≡ false → is_base r ≡ false
+like_no_base (PageUndo t n undone page slot after) r k h = ap is_base k.4
+like_no_base _ r k h = ap is_base k ∙ h
+
+pub like_is_no_base : (h : OpenWorkView) (r : Record) → IsLikeUndo h r → is_base r ≡ false
+like_is_no_base h r like = like_no_base like.0 r like.2 (undo_is_no_base h like.0 like.1)
+
 -- but for what it writes a record is in range, and leaves the same open
 pub like_range : (q r : Record) → IsLike q r → IsInRange q → IsInRange r
 like_range (PageUndo t n undone page slot after) r k h = subst IsInRange (sym k.4) (h.0, h.1, h.2, k.3)
@@ -106,35 +109,6 @@ module _ {L : Type 0} (g : Ghosts L) (only_now : (d : L) (c : List ℕ) → g.le
   pub still : (d : L) → IsRead g d d
   still d = record { same = refl; honest = λ h. h; leaves = λ c left. left; moments = started g d (g.may_leave d) (only_now d) }
 
--- nothing is handed over, one record after the other
-pub none_handed : {P L : Type 0} (g : Ghosts L) → ((d : L) (c : List ℕ) → g.left_since d (g.moment d) c → g.may_leave d c) → (pages : Pooled P) (log : Logged L) → log.failed ≡ false → HandsOverNothing g pages pages log log
-none_handed g only_now pages log running = record { sizes = refl; pages_device = refl; frames = refl; marked = same_marked pages pages refl; read = still g only_now log.device; forced = refl; running = running; settled = refl }
-
--- a record was read again
-pub one_read : {P L : Type 0} (g : Ghosts L) (pages : Pooled P) (log now : Logged L) → log.failed ≡ false → now ≡ record log { device = now.device } → IsRead g log.device now.device → HandsOverNothing g pages pages log now
-one_read g pages log now running same read = record {
-  sizes = refl;
-  pages_device = refl;
-  frames = refl;
-  marked = same_marked pages pages refl;
-  read = read;
-  forced = ap (λ (l : Logged _). l.forced) same;
-  running = ap (λ (l : Logged _). l.failed) same ∙ running;
-  settled = ap (λ (l : Logged _). l.settled) same;
-}
-
-pub and_then : {P L : Type 0} {g : Ghosts L} {a b c : Pooled P} {x y z : Logged L} → HandsOverNothing g a b x y → HandsOverNothing g b c y z → HandsOverNothing g a c x z
-and_then {P} {L} {g} {a} {b} {c} {x} {y} {z} h k = record {
-  sizes = k.sizes ∙ h.sizes;
-  pages_device = k.pages_device ∙ h.pages_device;
-  frames = k.frames ∙ h.frames;
-  marked = marked_twice a b c h.marked k.marked;
-  read = read_twice g x.device y.device z.device h.read k.read;
-  forced = k.forced ∙ h.forced;
-  running = k.running;
-  settled = k.settled ∙ h.settled;
-}
-
 -- one record more is repeated, or doesn't belong
 module _ (z y : Sizes) (log : List Record) (r : Record) (sizes : y ≡ z) (count : ℕ) (all : count ≡ length log + 1) where
   pub one_repeated : (old new : Images) → MayComeNext log r → MayRedo y old count r → Redoes (told_by r) count old new → IsRecordRedone z log r old new
@@ -149,48 +123,50 @@ module _ (z y : Sizes) (log : List Record) (r : Record) (sizes : y ≡ z) (count
     subst (λ n. MayRedo y old n r) (sym all) (subst (λ x. MayRedo x old (length log + 1) r) (sym sizes) b.may),
   )
 
--- what is kept between two such records: what was undone, on the pages too
-pub record IsGoingOn (z : Sizes) (log last : List Record) (first now : Images) : Type 0 where
-  pub undoing : IsUndoing log last
-  pub repeated : (start : Images) → Repeats z log start first → Repeats z last start now
-  pub counted : ArePagesCounted z (length log) first → ArePagesCounted z (length last) now
-
 -- a record undoes what is next
 one_next : (h : OpenWorkView) (next : NextUndo) → IsUndoneNext h next → (r : Record) × IsNextUndo h r
 one_next h (Void o) there = (void_of o, there)
 one_next h (Write lsn) there = (undo_of there.0, Undoes there.0 there.2.older there.2.none there.2.first refl)
 
-module _ (z y : Sizes) (log last : List Record) (first now : Images) (sizes : y ≡ z) (k : IsGoingOn z log last first now) where
-  pub going_more : (r : Record) (h : OpenWorkView) (grown : List Record) (after : Images) → h ≡ open_work_of last → IsNextUndo h r → grown ≡ r ∷ last → IsRecordRedone y last r now after → IsGoingOn z log grown first after
-  going_more r h grown after is next more one = subst (λ l. IsGoingOn z log l first after) (sym more) (record {
-    undoing = undoing_more log last r k.undoing (subst (λ j. IsNextUndo j r) is next);
-    repeated = λ start before. (now, before_from (now ≡ start) r (undo_is_no_base h r next) (k.repeated start before), subst (λ x. IsRecordRedone x last r now after) sizes one);
+-- one such record more
+module _ (z y : Sizes) (log last : List Record) (first now : Images) (sizes : y ≡ z) (k : IsRepeatedOn z log first last now) where
+  pub going_more : (r : Record) (grown : List Record) (after : Images) → is_base r ≡ false → grown ≡ r ∷ last → IsRecordRedone y last r now after → IsRepeatedOn z log first grown after
+  going_more r grown after plain more one = subst (λ l. IsRepeatedOn z log first l after) (sym more) (record {
+    repeated = λ start before. (now, before_from (now ≡ start) r plain (k.repeated start before), subst (λ x. IsRecordRedone x last r now after) sizes one);
     counted = λ before. subst (λ n. ArePagesCounted z n after) (let e : length last + 1 ≡ length (r ∷ last) = omega arith in e) (counted_more z last r now after (subst (λ x. IsRecordRedone x last r now after) sizes one) (k.counted before));
   })
 
-  pub going_stops : (r : Record) (h : OpenWorkView) (e : Refusal) → h ≡ open_work_of last → IsNextUndo h r → StepStops (length last) (Belongs y last r now) e → (start : Images) → Repeats z log start first → UndoStops z log start e
-  going_stops r h why.NoMemory is next s start before = record { undone = last; undoing = k.undoing; newest = r; next = subst (λ j. IsNextUndo j r) is next }
-  going_stops r h why.DiskRead is next s start before = tt
-  going_stops r h why.LogFull is next s start before = record { undone = last; undoing = k.undoing; full = s }
-  going_stops r h (why.Damaged (damage.Record lsn)) is next s start before = record {
-    undone = last;
-    undoing = k.undoing;
-    newest = r;
-    next = subst (λ j. IsNextUndo j r) is next;
-    place = s.0;
-    mid = now;
-    repeated = k.repeated start before;
-    bad = λ b. s.1 (subst (λ x. Belongs x last r now) (sym sizes) b);
-  }
-  going_stops r h _ is next s start before = absurd s
+  module _ (undoing : IsUndoing log last) where
+    left_to_undo : (r : Record) (h : OpenWorkView) → h ≡ open_work_of last → IsNextUndo h r → HasUndoLeft log
+    left_to_undo r h is next = record { undone = last; undoing = undoing; newest = r; next = subst (λ j. IsNextUndo j r) is next }
 
-  -- or what is next was not told
-  pub going_waits : {L : Type 0} (g : Ghosts L) (a b : L) (h : OpenWorkView) (next : NextUndo) (e : Refusal) → h ≡ open_work_of last → IsUndoneNext h next → NextNotUndoneFor g e next (length last) a b → g.honest b → (start : Images) → UndoStops z log start e
-  going_waits g a b h (Void sub) e is there s honest start = absurd s
-  going_waits g a b h (Write lsn) why.NoMemory is there s honest start =
-      let n = one_next h (Write lsn) there in
-      record { undone = last; undoing = k.undoing; newest = n.0; next = subst (λ j. IsNextUndo j n.0) is n.1 }
-  going_waits g a b h (Write lsn) why.DiskRead is there s honest start = tt
-  going_waits g a b h (Write lsn) why.LogFull is there s honest start = record { undone = last; undoing = k.undoing; full = s.0 }
-  going_waits g a b h (Write lsn) (why.Damaged (damage.Record n)) is there s honest start = absurd (s.2 honest)
-  going_waits g a b h (Write lsn) _ is there s honest start = absurd s
+    -- what is next was not made
+    pub going_stops : (r : Record) (h : OpenWorkView) (e : Refusal) → h ≡ open_work_of last → IsNextUndo h r → StepStops (length last) (Belongs y last r now) e → (start : Images) → Repeats z log start first → UndoStops z log start e
+    going_stops r h why.NoMemory is next s start before = left_to_undo r h is next
+    going_stops r h why.LogFull is next s start before = record { undone = last; undoing = undoing; full = s }
+    going_stops r h (why.Damaged (damage.Record lsn)) is next s start before = record {
+      undone = last;
+      undoing = undoing;
+      newest = r;
+      next = subst (λ j. IsNextUndo j r) is next;
+      place = s.0;
+      mid = now;
+      repeated = k.repeated start before;
+      bad = λ b. s.1 (subst (λ x. Belongs x last r now) (sym sizes) b);
+    }
+    going_stops r h _ is next s start before = absurd s
+
+    -- or its page could not be had
+    pub going_without : (r : Record) (h : OpenWorkView) (e : Refusal) → h ≡ open_work_of last → IsNextUndo h r → NamesDevice e → (start : Images) → Repeats z log start first → UndoStops z log start e
+    going_without r h why.DiskRead is next s start before = left_to_undo r h is next
+    going_without r h why.DiskWrite is next s start before = left_to_undo r h is next
+    going_without r h _ is next s start before = absurd s
+
+    -- or it was not told
+    pub going_waits : {L : Type 0} (g : Ghosts L) (a b : L) (h : OpenWorkView) (next : NextUndo) (e : Refusal) → h ≡ open_work_of last → IsUndoneNext h next → NextNotUndoneFor g e next (length last) a b → g.honest b → (start : Images) → UndoStops z log start e
+    going_waits g a b h (Void sub) e is there s honest start = absurd s
+    going_waits g a b h (Write lsn) why.NoMemory is there s honest start = (let n = one_next h (Write lsn) there in left_to_undo n.0 h is n.1)
+    going_waits g a b h (Write lsn) why.DiskRead is there s honest start = (let n = one_next h (Write lsn) there in left_to_undo n.0 h is n.1)
+    going_waits g a b h (Write lsn) why.LogFull is there s honest start = record { undone = last; undoing = undoing; full = s.0 }
+    going_waits g a b h (Write lsn) (why.Damaged (damage.Record n)) is there s honest start = absurd (s.2 honest)
+    going_waits g a b h (Write lsn) _ is there s honest start = absurd s

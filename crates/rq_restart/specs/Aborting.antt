@@ -190,6 +190,7 @@ abbrev pub AbortStops : {P : Type 0} → Sizes → (List Record → Type 0) → 
     → (List Record → State → Type 0) → Refusal → Type 0
 AbortStops z behind log old before why.NoMemory = Unit {0}
 AbortStops z behind log old before why.DiskRead = Unit {0}
+AbortStops z behind log old before why.DiskWrite = Unit {0}
 AbortStops z behind log old before why.LogFull = IsFull z behind before
 AbortStops z behind log old before (why.Damaged (damage.Record lsn)) = IsBadAbort z behind log old before lsn
 AbortStops z behind log old before _ = ⊥
@@ -200,10 +201,12 @@ AbortingStops z log old e = AbortStops z (IsAbortingFrom z log old) log old (IsS
 -- why what is due was not planned to be taken back
 abbrev pub PlanStops : Sizes → List (List ℕ) → PendingUndo → Refusal → Type 0
 PlanStops z images due why.NoMemory = is_some (deed_by due.level due.deed) ≡ true
+PlanStops z images due why.DiskRead = Unit {0}
 PlanStops z images due (why.Damaged (damage.Record lsn)) = (lsn ≡ due.lsn) × IsNotUndone z images due
 PlanStops z images due _ = ⊥
 
 -- why what the record with this LSN tells is not undone
 abbrev pub blamed_on : ℕ → Refusal → Refusal
 blamed_on lsn why.NoMemory = why.NoMemory
+blamed_on lsn why.DiskRead = why.DiskRead
 blamed_on lsn _ = why.Damaged (damage.Record lsn)

@@ -1,7 +1,10 @@
 pub mod Formatting
 pub mod Repeating
 pub mod Restarting
+pub mod Leaving
+pub mod Telling
 pub mod Underway
+pub mod Standing
 pub mod Opens
 pub mod Ended
 pub mod Past
@@ -9,7 +12,6 @@ pub mod Once
 pub mod Checked
 pub mod Refused
 pub mod Undoing
-pub mod Fewer
 pub mod Found
 pub mod Aborting
 pub mod RolledBack

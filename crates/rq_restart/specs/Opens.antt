@@ -1,5 +1,5 @@
 -- What a restart answers: the store that it opened, or why it did not, and what it leaves of both devices.
-use Rattle.std.specs.Prelude.{◌≡◌, ◌⊎◌, ℕ, ◌+◌, ◌<◌, ◌≤◌, List, [], drop, false, length, min, true}
+use Rattle.std.specs.Prelude.{◌≡◌, ℕ, ◌+◌, ◌<◌, ◌≤◌, List, [], drop, false, length, min, true}
 use Rattle.rq_model.specs.declared.record.Record.{Record}
 use Rattle.rq_model.specs.declared.refusal.Refusal.{Refusal}
 use Rattle.rq_model.specs.Bases.{earlier}
@@ -9,10 +9,10 @@ use Rattle.rq_model.specs.Ledger.{Ledger, after}
 use Rattle.rq_disk.specs.Device.{Only}
 use Rattle.rq_disk.specs.declared.device.LogDevice as log_device
 use Rattle.rq_disk.specs.declared.device.PageDevice as page_device
-use Rattle.rq_log.specs.Spelled.{spelled}
+use Rattle.rq_log.specs.Crash.{LeavesOnly}
+use Rattle.rq_log.specs.Spelled.{spelled, AreSpelled, EndsWith}
 use Rattle.rq_page.specs.Pages.{lsn_of}
 use Rattle.rq_page.specs.Sizes.{Sizes, page_count}
-use Rattle.rq_pool.specs.Fixing.{AreForcedTo}
 use Rattle.rq_pool.specs.Pooled.{image_at, is_changed}
 use Rattle.rq_pool.specs.Reading.{IsSuperblock, OnlyRead}
 use Rattle.rq_store.specs.Fitting.{AllFit}
@@ -25,9 +25,12 @@ use Rattle.rq_engine.specs.Devices.{EachPair, Path}
 use Rattle.rq_engine.specs.Earlier.{on, over, rebased}
 use Rattle.rq_engine.specs.Opened.{OpenStore, pooled}
 use Rattle.rq_restart.specs.declared.restart.Report.{Report}
+use Rattle.rq_restart.specs.Leaving.{LeavesSound}
 use Rattle.rq_restart.specs.Repeating.{paged}
-use Rattle.rq_restart.specs.Restarting.{BeginsFrom, IsLeftOn, IsOpenedOver, IsReadAs, IsRefusedFor, LeavesPages, NotWrittenOut, Reports, Stops, WasChecked}
+use Rattle.rq_restart.specs.Restarting.{BeginsFrom, IsLeftOn, IsOpenedOver, IsReadAs, IsRefusedFor, LeavesPages, Reports, Stops, TellTruly, WasChecked}
+use Rattle.rq_restart.specs.Telling.{WasLeftOrTells}
 use Rattle.rq_restart.specs.Underway.{IsLeftOrGoesOn, OfStores}
+use Rattle.rq_restart.specs.Undoing.{HaveBeenHonest}
 
 -- What was opened over the log that was read has its commits.
 pub record OpensOver {P L : Type 0} (older : List Record) (s : OpenStore P L) (report : Report) : Type 0 where
@@ -55,46 +58,44 @@ module _ {P L : Type 0} (p : page_device.Ghosts P) (l : log_device.Ghosts L) (pa
   -- the store that was opened on these devices, in so many frames beside that of the superblock, and what is reported of it
   pub record Opens (count : ℕ) (s : OpenStore P L) (report : Report) : Type 0 where
     pub sizes : p.honest s.pages → IsSuperblock s.state.sizes (p.seen pages 0)
-    pub checked : l.honest s.log → WasChecked p l pages log s.state.sizes (paged (pooled s)) s.state.records s.pages s.log
+    -- what was checked, where what was read is the store's
+    pub checked : TellTruly p l pages log count s.state.sizes s.pages s.log
+        → WasChecked p l pages log s.state.sizes (paged (pooled s)) s.state.records s.pages s.log
     pub over : (older : List Record) → IsReadAs l log s.log older → OpensOver older s report
     pub recovers : (older : List Record) → IsReadAs l log s.log older → IsLeftOn p s.state.sizes pages s.pages older
         → Recovers p pages older s report
-    -- all its records are forced, and no checkpoint has failed
+    -- it runs, with nothing under way; all its records are forced, and no checkpoint has failed
+    pub running : s.state.failed ≡ false
+    pub idle : s.state.rows ≡ []
+    pub forced : s.state.forced ≡ length s.state.records
     pub reads : l.honest s.log → l.seen s.log ≡ spelled s.state.records
     pub durable : l.honest s.log → Only (spelled s.state.records) (l.may_leave s.log)
     pub untried : s.replacing ≡ false
     pub unfailed : (p.faults s.pages ≡ p.faults pages) × (l.faults s.log ≡ l.faults log)
     pub frames : length s.frames ≡ min (page_count s.state.sizes) (count + 1)
+    -- where the frames are enough, the pages were only read, and at every moment the log had at most the records of a restart more
+    pub read : page_count s.state.sizes ≤ count + 1 → OnlyRead p pages s.pages × BeginsFrom p l pages log s.pages s.log
     -- a page that counts as changed is newer than it was read
     pub marked : p.honest s.pages → (q : ℕ) → q < page_count s.state.sizes → is_changed s.changed q ≡ true
         → lsn_of (p.seen pages q) < lsn_of (image_at s.state.images q)
-    -- of a page a crash leaves what it might have left before, or its image, whose last record is one of them
-    pub pages_left : LeavesPages p l pages log s.pages s.state.images (length s.state.records)
+    -- whatever the devices are, pages of that store alone were written
+    pub written : LeavesSound p s.state.sizes pages s.pages
+    -- what a crash leaves of the pages, of honest devices
+    pub pages_left : HaveBeenHonest p l s.pages s.log → LeavesPages p l pages log s.pages s.state.sizes s.state.records
 
-  -- The same with each page in a frame: it runs, nothing is under way, all its records are forced, and no page is ahead of them. The
-  -- pages were only read.
-  pub record OpensWhole (s : OpenStore P L) (report : Report) : Type 0 where
-    pub opens : Opens (page_count s.state.sizes) s report
-    pub pages_read : OnlyRead p pages s.pages
-    pub running : s.state.failed ≡ false
-    pub idle : s.state.rows ≡ []
-    pub forced : s.state.forced ≡ length s.state.records
-    pub ahead : AreForcedTo (pooled s) s.state.forced
+  -- why none was opened in so many frames, and what that says of honest devices that hold a store
+  pub record Refuses (count : ℕ) (e : Refusal) (new_pages : P) (new_log : L) : Type 0 where
+    pub cause : IsRefusedFor p l pages log count e new_pages new_log
+    pub stops : p.honest new_pages → (z : Sizes) → IsSuperblock z (p.seen pages 0) → (older : List Record)
+        → IsReadAs l log new_log older → Stops (IsLeftOn p z pages new_pages older) z older e (p.faults pages)
+        (p.faults new_pages) (l.faults log) (l.faults new_log)
 
-  -- why none was opened, and what that says of devices that hold a store
-  pub record Refuses (e : Refusal) (new_pages : P) (new_log : L) : Type 0 where
-    pub cause : IsRefusedFor p l pages log e new_pages new_log
-    -- the pages were only read, or one of them could not be written out
-    pub pages_read : OnlyRead p pages new_pages ⊎ NotWrittenOut p l pages log e new_pages new_log
-    pub stops : (z : Sizes) → IsSuperblock z (p.seen pages 0) → (older : List Record) → IsReadAs l log new_log older
-        → Stops (IsLeftOn p z pages new_pages older) z older e (p.faults pages) (p.faults new_pages) (l.faults log)
-        (l.faults new_log)
-
-  -- The log has at most records behind what was read, at every moment, and pages may be written out behind all of them. So where
-  -- each pair that a crash might have left is a store, each pair that a crash leaves is one.
+  -- Where each pair that a crash might have left is a store, each pair that a crash leaves at any moment is one. Whatever the pages are,
+  -- and in any number of frames: what an honest log told, all that a crash leaves of it at any moment tells, with records behind.
   pub record KeepsStores (new_pages : P) (new_log : L) : Type 0 where
     pub pages_honest : p.honest new_pages → p.honest pages
-    pub any_moment : BeginsFrom p l pages log new_pages new_log
+    pub kept : l.honest new_log → (older : List Record) → AreSpelled older → EndsWith older (l.seen log)
+        → LeavesOnly l log new_log (WasLeftOrTells l log older)
     pub path : OfStores p l pages log new_pages new_log
         (λ z read. Path p l (IsLeftOrGoesOn l log z read) pages log new_pages new_log)
     pub crash : OfStores p l pages log new_pages new_log

@@ -1,11 +1,10 @@
 -- What a restart finds.
-use Rattle.std.specs.Prelude.{◌≡◌, ◌≢◌, ◌⊎◌, ℕ, ◌+◌, ◌-◌, ◌%◌, ◌^◌, ◌<◌, ◌≤◌, false, List, ◌∷◌, drop, length}
+use Rattle.std.specs.Prelude.{◌≡◌, ◌≢◌, ◌⊎◌, ℕ, ◌+◌, ◌-◌, ◌%◌, ◌^◌, ◌<◌, ◌≤◌, false, List, [], ◌∷◌, ◌++◌, drop, length}
 use Rattle.rq_model.specs.declared.record.Record.{Record}
 use Rattle.rq_model.specs.declared.refusal.Refusal.{Refusal}
 use Rattle.rq_model.specs.declared.refusal.Refusal.TheVariants as why
 use Rattle.rq_groups.specs.Sent.{SentBy, sent_count}
 use Rattle.rq_groups.specs.Waiting.{waits}
-use Rattle.rq_page.specs.Pages.{lsn_of}
 use Rattle.rq_page.specs.Sizes.{Sizes, page_count, sender_count}
 use Rattle.rq_level.specs.LevelState.{LevelState}
 use Rattle.rq_planner.specs.Answered.{KnowsCells}
@@ -16,7 +15,7 @@ use Rattle.rq_disk.specs.declared.device.LogDevice as log_device
 use Rattle.rq_disk.specs.declared.device.PageDevice as page_device
 use Rattle.rq_pool.specs.Reading as pages_read
 use Rattle.rq_pool.specs.Reading.{ArePages, AreSeen}
-use Rattle.rq_log.specs.Reading.{IsRead}
+use Rattle.rq_log.specs.Reading.{BeginsWith, IsRead}
 use Rattle.rq_log.specs.Logged.{Logged, WasDurable}
 use Rattle.rq_log.specs.Crash.{LeavesOnly}
 use Rattle.rq_log.specs.Spelled.{spelled, AreSpelled, EndsWith, GoOnTo, GoesOn}
@@ -29,7 +28,8 @@ use Rattle.rq_analysis.specs.OpenWorkView.{open_work_of}
 use Rattle.rq_analysis.specs.Recovered.{IsRecovered}
 use Rattle.rq_restart.specs.RolledBack.{HasRepeated, IsAtBound, IsRolledBack, IsRolledBackOn}
 use Rattle.rq_restart.specs.Repeating.{AreMarked, Repeats, paged}
-use Rattle.rq_pool.specs.Pooled.{IsPool, Pooled, image_at}
+use Rattle.rq_pool.specs.Fetching.{AreAllFramed, IsReadAsStored}
+use Rattle.rq_pool.specs.Pooled.{IsPool, Pooled}
 use Rattle.rq_views.specs.Stored.{count_used, slots_in}
 use Rattle.rq_restart.specs.declared.restart.Report.{Report}
 use Rattle.rq_model.specs.Bases.{IsMarked, gone, marked, standing}
@@ -37,7 +37,10 @@ use Rattle.rq_engine.specs.Devices.{PagesLeave}
 use Rattle.rq_engine.specs.Earlier.{rebased}
 use Rattle.rq_restart.specs.Past.{IsPast, WhereLeft}
 use Rattle.rq_restart.specs.Refused.{IsStoppedBehind, WhyShut}
-use Rattle.rq_restart.specs.Undoing.{FailsWith}
+use Rattle.rq_restart.specs.Leaving.{LeavesRepeated, LeavesSound, WasLeftOrRepeated}
+use Rattle.rq_restart.specs.Standing.{NoneHeld}
+use Rattle.rq_restart.specs.Telling.{GoesOnTelling, TellsBehind, TellsNone}
+use Rattle.rq_restart.specs.Undoing.{FailsWith, HaveBeenHonest, HaveToldTruly, NoneFailed, failures}
 
 -- Behind the log that was read stand the records by which what has no end is undone, and then one that begins the
 -- incarnation after the last. All are forced.
@@ -146,13 +149,10 @@ module _ {L : Type 0} (g : log_device.Ghosts L) where
     pub forced : new.forced ≡ length new.records
     pub reports : g.honest new.device → (e : List Record) → IsPast e old.records
         → Reports z (rebased e old.records) new.records report.incarnation report.records report.unfinished report.lost
-    -- no page is ahead of them
-    pub within : (p : ℕ) → 1 ≤ p → p < page_count z → lsn_of (image_in images p) ≤ length new.records
     pub told : AreTold z images (length new.records) waiting sent
     pub known : KnowsCells z images planner
     pub ready : IsReady g report.incarnation new
     pub room : new.reserved ≡ old.reserved
-    pub cause : g.faults new.device ≡ g.faults old.device
 
   -- The device of a log that was gone through to these pages: a crash at any moment leaves what it might have left before,
   -- or the first of the records by which the next incarnation is begun.
@@ -173,14 +173,7 @@ module _ {L : Type 0} (g : log_device.Ghosts L) where
   abbrev pub StopsOver : Sizes → Images → Refusal → L → L → Type 0
   StopsOver z first e old new =
       IsStoppedBehind g z first e old new
-      ⊎ ((older : List Record) × AreSpelled older × (g.honest new → EndsWith older (g.seen old))
-      × WhyShut z older first e (g.faults old) (g.faults new) (IsRead g old new))
-
-  -- the same, and of any device whether it failed, and that it was only read unless it failed in a write
-  pub record LogStops (z : Sizes) (first : Images) (e : Refusal) (old new : L) : Type 0 where
-    pub counted : FailsWith e (g.faults old) (g.faults new)
-    pub read : (e ≢ why.DiskWrite) → IsRead g old new
-    pub over : g.honest new → StopsOver z first e old new
+      ⊎ ((older : List Record) × AreSpelled older × (g.honest new → EndsWith older (g.seen old)) × WhyShut z older first e)
 
   -- the log was read, all of it
   pub record IsLogRead (log : L) (read : Logged L) : Type 0 where
@@ -192,35 +185,70 @@ module _ {L : Type 0} (g : log_device.Ghosts L) where
     pub unreserved : read.reserved ≡ 0
     pub running : read.failed ≡ false
 
+module _ {P L : Type 0} (p : page_device.Ghosts P) (l : log_device.Ghosts L) where
+  -- What a run of calls leaves that goes on with a restart, of the pages and of both devices. Records may have come behind the log.
+  pub record Continues (old : Pooled P) (log : L) (records : List Record) (new : Pooled P) (now : L) (now_records : List Record) : Type 0 where
+    pub sizes : new.sizes ≡ old.sizes
+    pub count : length new.frames ≡ length old.frames
+    pub held : NoneHeld old.frames → NoneHeld new.frames
+    pub marked : IsReadAsStored p old new → AreMarked old new
+    pub pages_honest : p.honest new.device → p.honest old.device
+    pub log_honest : l.honest now → l.honest log
+    -- with each page in a frame, the device of the pages is left alone
+    pub stood : AreAllFramed old → new.device ≡ old.device
+    pub written : LeavesSound p old.sizes old.device new.device
+    pub behind : (made : List Record) × (now_records ≡ made ++ records)
+    pub leaves : HaveBeenHonest p l new.device now → (first : Images) → Repeats old.sizes records first (paged old)
+        → LeavesRepeated p old.sizes first now_records old.device new.device
+
   -- Over pages that were first so the log was read, gone through and mended, and the next incarnation begun: with these
-  -- tables an engine may be opened over it. The pages stand in the frames that they stood in, and none was fixed or let go.
-  pub record OpensLog {P : Type 0} (first now : Pooled P) (log : L) (new : Logged L) (cells : ℕ) (waiting : List ℕ)
-      (sent : SentBy) (planner : List LevelState) (report : Report) : Type 0 where
-    pub sizes : now.sizes ≡ first.sizes
-    pub device : now.device ≡ first.device
-    pub frames : now.frames ≡ first.frames
-    pub marked : AreMarked first now
+  -- tables an engine may be opened over it.
+  pub record OpensLog (first now : Pooled P) (log : L) (new : Logged L) (cells : ℕ) (waiting : List ℕ) (sent : SentBy)
+      (planner : List LevelState) (report : Report) : Type 0 where
+    pub continues : Continues first log [] now new.device new.records
+    pub none_failed : NoneFailed p l first.device log now.device new.device
     pub pool : IsPool now.sizes now.images
     pub cells_used : cells ≡ count_used now.sizes (slots_in now.sizes now.images)
     pub read : Logged L
-    pub was_read : IsLogRead log read
-    pub honest : g.honest new.device → g.honest read.device
+    pub was_read : IsLogRead l log read
+    pub honest : l.honest new.device → l.honest read.device
     -- what is behind it
-    pub restarted : IsRestarted now.sizes now.images read new waiting sent planner report
-    pub repeated : g.honest new.device → HasRepeated first.sizes read.records new.records (paged first) (paged now)
-    pub any_moment : BeginsAtMost first.sizes (image_in first.images) log new.device
+    pub restarted : IsRestarted l now.sizes now.images read new waiting sent planner report
+    pub repeated : HaveToldTruly p l first now new.device
+        → HasRepeated first.sizes read.records new.records (paged first) (paged now)
+    pub begun : l.honest new.device → IsBegun read.records new
+    pub any_moment : AreAllFramed first → BeginsAtMost l first.sizes (paged first) log new.device
+    pub telling : GoesOnTelling l log new.device (Unit {0})
+
+  -- what a crash leaves of pages on which some records that were read, and some behind them, were repeated
+  pub record LeavesFront (z : Sizes) (first : Images) (pages new_pages : P) (log : L) : Type 0 where
+    pub front : List Record
+    pub begins : BeginsWith front (l.seen log)
+    pub made : List Record
+    pub left : LeavesRepeated p z first (made ++ front) pages new_pages
 
   -- The store with these pages was not opened over the log, and why; both devices are given back.
-  pub record RefusesLog {P : Type 0} (pages : Pooled P) (device : P) (old new : L) (e : Refusal) : Type 0 where
-    pub same : device ≡ pages.device
-    pub stops : LogStops pages.sizes (paged pages) e old new
-    pub any_moment : BeginsAtMost pages.sizes (image_in pages.images) old new
+  pub record RefusesLog (pages : Pooled P) (new_pages : P) (log new_log : L) (e : Refusal) : Type 0 where
+    pub honest : p.honest new_pages → p.honest pages.device
+    pub fails : FailsWith p pages.device new_pages e (failures l.faults log new_log)
+    pub stood : AreAllFramed pages → (new_pages ≡ pages.device) × ((e ≢ why.DiskWrite) → IsRead l log new_log)
+        × BeginsAtMost l pages.sizes (paged pages) log new_log
+    pub over : (AreAllFramed pages ⊎ p.honest new_pages) × l.honest new_log → StopsOver l pages.sizes (paged pages) e log new_log
+    pub leaves : HaveBeenHonest p l new_pages new_log → LeavesFront pages.sizes (paged pages) pages.device new_pages log
+    pub written : LeavesSound p pages.sizes pages.device new_pages
+    pub telling : GoesOnTelling l log new_log (e ≢ why.DiskWrite)
+    pub unread : l.honest new_log → TellsNone l log → IsRead l log new_log
 
 module _ {P L : Type 0} (p : page_device.Ghosts P) (l : log_device.Ghosts L) (pages : P) (log : L) where
   -- the pages were read, and are those of a store of these sizes
   pub record WereRead (new_pages : P) (z : Sizes) (images : List (List ℕ)) : Type 0 where
     pub sound : ArePages z images
     pub seen : p.honest new_pages → AreSeen (p.seen pages) images (page_count z)
+
+  -- What was read of both devices is the store's: that of the log has been honest, and that of the pages too, or so many frames beside that of
+  -- the superblock are enough for them, so that none had to be read again.
+  abbrev pub TellTruly : ℕ → Sizes → P → L → Type 0
+  TellTruly count z new_pages new_log = ((page_count z ≤ count + 1) ⊎ p.honest new_pages) × l.honest new_log
 
   -- bytes of the log that was read with the first of the records behind, beside the pages that were read
   pub record IsBegunFrom (new_pages : P) (bytes : List ℕ) : Type 0 where
@@ -249,35 +277,44 @@ module _ {P L : Type 0} (p : page_device.Ghosts P) (l : log_device.Ghosts L) (pa
     pub begun : records ≡ next_restart rolled_back ∷ rolled_back
     pub room : length rolled_back < 2 ^ 50
 
-  -- of a page: what a crash might have left before, or its image, whose last record is one of so many
-  abbrev pub WasLeftOrWritten : List (List ℕ) → ℕ → ℕ → List ℕ → Type 0
-  WasLeftOrWritten images count page c = p.may_be pages page c ⊎ ((c ≡ image_at images page) × (lsn_of c ≤ count))
-
-  -- a crash leaves such images, now and at any moment
-  pub record LeavesPages (new_pages : P) (images : List (List ℕ)) (count : ℕ) : Type 0 where
-    pub now : (page : ℕ) (c : List ℕ) → p.may_be new_pages page c → WasLeftOrWritten images count page c
-    pub moments : PagesLeave p pages new_pages (Leaves (WasLeftOrWritten images count))
-
-  -- A page could not be written out: its device failed once more in that, and the device of the log did not. All was checked, and
-  -- the next incarnation begun: the log reads as its records, and a crash leaves them. Some pages may have been written.
-  pub record NotWrittenOut (e : Refusal) (new_pages : P) (new_log : L) : Type 0 where
-    pub is : e ≡ why.DiskWrite
-    pub failed : p.faults new_pages ≡ (p.faults pages + 1) % 2 ^ 64
-    pub unfailed : l.faults new_log ≡ l.faults log
-    pub sizes : Sizes
-    pub records : List Record
+  -- Of each page a crash leaves, now and at any moment, what it might have left before, or an image that the oldest of these records made of
+  -- the pages that were read.
+  pub record LeavesPages (new_pages : P) (z : Sizes) (records : List Record) : Type 0 where
     pub images : List (List ℕ)
-    pub checked : l.honest new_log → WasChecked sizes (image_in images) records new_pages new_log
-    pub pages_left : LeavesPages new_pages images (length records)
-    pub reads : l.honest new_log → l.seen new_log ≡ spelled records
-    pub durable : l.honest new_log → Only (spelled records) (l.may_leave new_log)
+    pub were : WereRead new_pages z images
+    pub now : (page : ℕ) (c : List ℕ) → p.may_be new_pages page c → WasLeftOrRepeated p z (image_in images) records pages page c
+    pub moments : PagesLeave p pages new_pages (Leaves (WasLeftOrRepeated p z (image_in images) records pages))
 
-  -- Why a restart was refused, and where: the pages could not be read, and the log was left alone; or they were all
-  -- read and are sound, and then this; or one of them could not be written out at the end.
-  abbrev pub IsRefusedFor : Refusal → P → L → Type 0
-  IsRefusedFor e new_pages new_log =
-      (pages_read.StopsFor p e pages new_pages × (new_log ≡ log))
-      ⊎ (((z : Sizes) × (images : List (List ℕ)) × ArePages z images
-      × (p.honest new_pages → AreSeen (p.seen pages) images (page_count z)) × (p.faults new_pages ≡ p.faults pages)
-      × LogStops l z (image_in images) e log new_log)
-      ⊎ NotWrittenOut e new_pages new_log)
+  -- the same of some records that were read, and some behind them
+  pub record LeavesSome (new_pages : P) (z : Sizes) : Type 0 where
+    pub front : List Record
+    pub begins : BeginsWith front (l.seen log)
+    pub made : List Record
+    pub left : LeavesPages new_pages z (made ++ front)
+
+  -- the pages could not be read, and the log was left alone
+  pub record IsNotLoaded (e : Refusal) (new_pages : P) (new_log : L) : Type 0 where
+    pub stops : pages_read.StopsFor p e pages new_pages
+    pub read : pages_read.OnlyRead p pages new_pages
+    pub same : new_log ≡ log
+
+  -- The pages were all read and are sound, and then this. Where the frames are enough, the pages were only read, and the log too
+  -- unless a device failed in a write. In any number of frames an honest log that told records tells these, with others behind, unless
+  -- a device failed in a write; one that told none was only read. Whatever both devices are, pages of that store alone were written.
+  pub record IsRefusedOver (count : ℕ) (e : Refusal) (new_pages : P) (new_log : L) : Type 0 where
+    pub sizes : Sizes
+    pub images : List (List ℕ)
+    pub were : WereRead new_pages sizes images
+    pub fails : FailsWith p pages new_pages e (failures l.faults log new_log)
+    pub read : page_count sizes ≤ count + 1 → pages_read.OnlyRead p pages new_pages × ((e ≢ why.DiskWrite) → IsRead l log new_log)
+        × BeginsFrom new_pages new_log
+    pub told : (e ≢ why.DiskWrite) → l.honest new_log → (older : List Record) → AreSpelled older → EndsWith older (l.seen log)
+        → TellsBehind older (l.seen log) (l.seen new_log)
+    pub unread : l.honest new_log → TellsNone l log → IsRead l log new_log
+    pub over : TellTruly count sizes new_pages new_log → StopsOver l sizes (image_in images) e log new_log
+    pub leaves : HaveBeenHonest p l new_pages new_log → LeavesSome new_pages sizes
+    pub written : LeavesSound p sizes pages new_pages
+
+  -- why a restart was refused, and where
+  abbrev pub IsRefusedFor : ℕ → Refusal → P → L → Type 0
+  IsRefusedFor count e new_pages new_log = IsNotLoaded e new_pages new_log ⊎ IsRefusedOver count e new_pages new_log

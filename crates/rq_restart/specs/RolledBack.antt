@@ -98,6 +98,7 @@ pub record IsUnlinked (z : Sizes) (log : List Record) (first : Images) (page : �
 -- why the chains in these slots were not found to be whole
 abbrev pub LinkStops : Sizes → Slots → Refusal → Type 0
 LinkStops z q why.NoMemory = Unit {0}
+LinkStops z q why.DiskRead = Unit {0}
 LinkStops z q (why.Damaged (damage.Page page)) = IsFault z q page
 LinkStops z q _ = ⊥
 
@@ -105,6 +106,7 @@ LinkStops z q _ = ⊥
 abbrev pub RollbackStops : Sizes → List Record → Images → Refusal → Type 0
 RollbackStops z log first why.NoMemory = Unit {0}
 RollbackStops z log first why.DiskRead = Unit {0}
+RollbackStops z log first why.DiskWrite = Unit {0}
 RollbackStops z log first why.LogFull = HasNoRoom z first log
 RollbackStops z log first (why.Damaged (damage.Record lsn)) = IsBadUndo z log first lsn ⊎ IsBadRollback z log first lsn
 RollbackStops z log first (why.Damaged (damage.Page page)) = IsUnlinked z log first page

@@ -9,9 +9,11 @@ use Rattle.rq_disk.specs.declared.device.LogDevice as log_device
 use Rattle.rq_disk.specs.declared.device.PageDevice as page_device
 use Rattle.rq_log.specs.Spelled.{spelled, AreSpelled, EndsWith, GoOnTo}
 use Rattle.rq_page.specs.Sizes.{Sizes, IsInRange}
+use Rattle.rq_store.specs.Fitting.{AllFit}
 use Rattle.rq_store.specs.Opening.{IsLeft}
+use Rattle.rq_store.specs.Whole.{IsWhole}
 use Rattle.rq_engine.specs.Opened.{OpenStore}
-use Rattle.rq_engine.specs.Devices.{EachPair}
+use Rattle.rq_engine.specs.Devices.{EachPair, Path}
 use Rattle.rq_restart.specs.declared.restart.Report.{Report}
 use Rattle.rq_restart.specs.declared.restart.Stopped.{Stopped}
 
@@ -37,6 +39,19 @@ pub record IsGoneOnWith (read : List Record) (seen : List ℕ) (now : List Recor
 abbrev pub IsLeftOrGoesOn : {L : Type 0} → log_device.Ghosts L → L → Sizes → List Record → Images → List ℕ → Type 0
 IsLeftOrGoesOn l log z read images bytes = (now : List Record) × IsStore z now images bytes × (earlier now ≡ earlier read)
     × (l.may_leave log bytes ⊎ IsGoneOnWith read (l.seen log) now bytes)
+
+-- A restart on its way over honest devices. At each moment so far each pair that a crash left is such a store. Whatever one leaves of
+-- the pages now fits these records, which are those that were read, or plain records behind them, all of them on the log's device.
+pub record IsOnWay {P L : Type 0} (p : page_device.Ghosts P) (l : log_device.Ghosts L) (pages : P) (log : L) (z : Sizes)
+    (read kept : List Record) (now_pages : P) (now_log : L) : Type 0 where
+  pub path : Path p l (IsLeftOrGoesOn l log z read) pages log now_pages now_log
+  pub fit : AllFit (p.may_be now_pages) z kept
+  pub range : IsInRange z
+  pub whole : IsWhole z kept
+  pub extends : Extends read kept
+  pub told : AreSpelled kept
+  pub reads : EndsWith kept (l.seen now_log)
+  pub seen : (l.seen now_log ≡ l.seen log) ⊎ (l.seen now_log ≡ spelled kept)
 
 -- where each pair that a crash might have left before is a store, over the same earlier records as the log of which this
 -- was read, then so says Q

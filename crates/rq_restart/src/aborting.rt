@@ -2,7 +2,7 @@
 ghost use Rattle.std.specs.Prelude.{◌≡◌, ◌∷◌, ◌<◌, IfOk, IfErr, MatchOption, OnOk, OnErr, None, false, List, [], length, take};
 ghost use Rattle.rq_views.specs.Stored.{slots_in};
 ghost use Rattle.rq_level.specs.Writes.{AreSlotWrites};
-ghost use Rattle.rq_pool.specs.Fetching.{AreAllFramed};
+ghost use Rattle.rq_pool.specs.Fetching.{HasReadFor, IsReadAsStored};
 ghost use Rattle.rq_planner.specs.Answered.{IsPlannedAlone, KnowsCells};
 ghost use Rattle.rq_planner.specs.Backs.{IsTakingBack};
 ghost use Rattle.rq_analysis.specs.declared.dues.PendingUndo.{PendingUndo};
@@ -13,15 +13,15 @@ ghost use Rattle.rq_record.specs.Spelling.{IsTxnInRange};
 ghost use Rattle.rq_store.specs.Steps.{page_op};
 ghost use Rattle.rq_model.specs.Deeds.{deed_by};
 ghost use Rattle.rq_model.specs.Vocabulary.{In};
-ghost use Rattle.rq_restart.specs.Aborting.{AbortStops, AbortingStops, HasAborted, HasGoneOn, IsMaking, IsShownWithin, PlanStops, with_writes};
+ghost use Rattle.rq_restart.specs.Aborting.{AbortStops, AbortingStops, AbortsBehind, HasAborted, HasGoneOn, IsMaking, IsShown, IsShownWithin, PlanStops, with_writes};
 ghost use Rattle.rq_restart.specs.Checked.{IsEnded};
 ghost use Rattle.rq_restart.specs.Found.{IsAnalysisOf};
-ghost use Rattle.rq_restart.specs.Repeating.{ArePagesCounted, paged};
-ghost use Rattle.rq_restart.specs.Undoing.{FailsWith, HandsOverNothing};
+ghost use Rattle.rq_restart.specs.Standing.{Found, KeepsStore, NoneHeld, StandsOver};
+ghost use Rattle.rq_restart.specs.Undoing.{GoesOn, HaveBeenHonest, HaveToldTruly, IsOfReads};
 
 use crate::again::{blamed, due_again};
 use crate::analysis::Analysis;
-use crate::appending::append;
+use crate::appending::{append, make_way};
 use rq_analysis::{PendingUndo, next_end};
 use rq_disk::{LogDevice, PageDevice};
 use rq_level::{Level, SlotWrite};
@@ -36,11 +36,13 @@ use std::alloc::Global;
 
 /// Undoes the transactions that have no end: those first that have nothing left to be taken back, by rising number, and
 /// then what the others did, the newest of all first, each with its end behind the last that it did. The records of it
-/// are made behind the log, of which these are the findings, and nothing is handed over.
+/// are made behind the log, of which these are the findings. Where a page is wanting, another gives way in a frame, behind the force
+/// of all records.
 ///
 /// # Errors
-/// `NoMemory`; `DiskRead`; `LogFull` where the log is at its greatest length; `Damaged` with the number of the OpEnd that
-/// cannot be taken back or that the device gives no more, or of a record that would not belong where it has to stand.
+/// `NoMemory`; `DiskRead`, `DiskWrite`; `LogFull` where the log is at its greatest length; `Damaged` with the number of the OpEnd that
+/// cannot be taken back or that the device gives no more, or of a record that would not belong where it has to stand; or with a page
+/// that a device gave that has lied.
 pub(crate) fn abort_lost<P: PageDevice + Drop, L: LogDevice + Drop, B: Level>(
     alloc: Global,
     pages: &mut Pages<P>,
@@ -48,27 +50,31 @@ pub(crate) fn abort_lost<P: PageDevice + Drop, L: LogDevice + Drop, B: Level>(
     analysis: &mut Analysis,
     planner: &mut Planner<B>,
 ) -> Result<(), Refusal>
-    requires framed { AreAllFramed pages.old }
+    requires held { NoneHeld pages.old.frames }
+    requires more { 1 < length pages.old.frames }
     requires found { IsAnalysisOf analysis.old log.old.records }
     requires follow { L.honest log.old.device → FollowAll log.old.records }
     requires running { log.old.failed ≡ false }
     requires cells { KnowsCells pages.old.sizes pages.old.images planner.old }
-    ensures gone_on { OnOk result (L.honest log.new.device
+    ensures behind { OnOk result (L.honest log.new.device → AbortsBehind log.old.records log.new.records) }
+    ensures gone_on { OnOk result (HaveToldTruly P.PageDevice L.LogDevice pages.old pages.new log.new.device
         → HasAborted pages.old.sizes log.old.records pages.old log.new.records pages.new) }
-    ensures counted { OnOk result (ArePagesCounted pages.old.sizes (length log.old.records) (paged pages.old)
-        → ArePagesCounted pages.old.sizes (length log.new.records) (paged pages.new)) }
     ensures ended { OnOk result (IsEnded log.new.records) }
-    ensures none { OnOk result (IsEnded log.old.records → (log.new.records ≡ log.old.records) × (pages.new ≡ pages.old)) }
+    ensures none { OnOk result (IsEnded log.old.records → (log.new ≡ log.old) × (pages.new ≡ pages.old)) }
     ensures found { OnOk result (IsAnalysisOf analysis.new log.new.records) }
     ensures follow { OnOk result (L.honest log.new.device → FollowAll log.new.records) }
     ensures cells { OnOk result (KnowsCells pages.new.sizes pages.new.images planner.new) }
-    ensures stops { IfErr result (λ e. L.honest log.new.device
+    ensures stops { IfErr result (λ e. HaveToldTruly P.PageDevice L.LogDevice pages.old pages.new log.new.device
         → AbortingStops pages.old.sizes log.old.records pages.old e) }
-    ensures fails { IfErr result (λ e. FailsWith e (L.faults log.old.device) (L.faults log.new.device)) }
-    ensures cause { OnOk result (L.faults log.new.device ≡ L.faults log.old.device) }
     ensures some { OnErr result (IsEnded log.old.records → ⊥) }
-    ensures stays { HandsOverNothing L.LogDevice pages.old pages.new log.old log.new }
+    ensures goes_on { GoesOn P.PageDevice L.LogDevice pages.old log.old.device log.old.records result pages.new
+        log.new.device log.new.records }
+    ensures running { OnOk result (log.new.failed ≡ false) }
     ensures room { OnOk result (log.new.reserved ≡ log.old.reserved) }
+    ensures way { HaveBeenHonest P.PageDevice L.LogDevice pages.new.device log.new.device → (f : Found P L)
+        → StandsOver P.PageDevice L.LogDevice f (IsShown log.old.records pages.old) pages.old log.old
+        → OnOk result (StandsOver P.PageDevice L.LogDevice f (IsShown log.new.records pages.new) pages.new log.new)
+        × OnErr result (KeepsStore P.PageDevice L.LogDevice f pages.new.device log.new.device) }
 {
     if analysis.open_work.all_ended() {
         return Ok(());
@@ -85,24 +91,26 @@ fn end_idle<P: PageDevice + Drop, L: LogDevice + Drop, B: Level>(
     analysis: &mut Analysis,
     planner: &mut Planner<B>,
 ) -> Result<(), Refusal>
-    requires framed { AreAllFramed pages.old }
     requires found { IsAnalysisOf analysis.old log.old.records }
     requires follow { L.honest log.old.device → FollowAll log.old.records }
     requires running { log.old.failed ≡ false }
-    ensures gone_on { OnOk result (L.honest log.new.device
+    ensures behind { OnOk result (L.honest log.new.device → AbortsBehind log.old.records log.new.records) }
+    ensures gone_on { OnOk result (HaveToldTruly P.PageDevice L.LogDevice pages.old pages.new log.new.device
         → HasAborted pages.old.sizes log.old.records pages.old log.new.records pages.new) }
-    ensures counted { OnOk result (ArePagesCounted pages.old.sizes (length log.old.records) (paged pages.old)
-        → ArePagesCounted pages.old.sizes (length log.new.records) (paged pages.new)) }
     ensures same { OnOk result (pages.new ≡ pages.old) }
     ensures none { OnOk result (least_free analysis.new.dues analysis.new.open_work.active ≡ None) }
     ensures found { OnOk result (IsAnalysisOf analysis.new log.new.records) }
     ensures follow { OnOk result (L.honest log.new.device → FollowAll log.new.records) }
-    ensures stops { IfErr result (λ e. L.honest log.new.device
+    ensures stops { IfErr result (λ e. HaveToldTruly P.PageDevice L.LogDevice pages.old pages.new log.new.device
         → AbortingStops pages.old.sizes log.old.records pages.old e) }
-    ensures fails { IfErr result (λ e. FailsWith e (L.faults log.old.device) (L.faults log.new.device)) }
-    ensures cause { OnOk result (L.faults log.new.device ≡ L.faults log.old.device) }
-    ensures stays { HandsOverNothing L.LogDevice pages.old pages.new log.old log.new }
+    ensures goes_on { GoesOn P.PageDevice L.LogDevice pages.old log.old.device log.old.records result pages.new
+        log.new.device log.new.records }
+    ensures running { OnOk result (log.new.failed ≡ false) }
     ensures room { OnOk result (log.new.reserved ≡ log.old.reserved) }
+    ensures way { HaveBeenHonest P.PageDevice L.LogDevice pages.new.device log.new.device → (f : Found P L)
+        → StandsOver P.PageDevice L.LogDevice f (IsShown log.old.records pages.old) pages.old log.old
+        → OnOk result (StandsOver P.PageDevice L.LogDevice f (IsShown log.new.records pages.new) pages.new log.new)
+        × OnErr result (KeepsStore P.PageDevice L.LogDevice f pages.new.device log.new.device) }
     ensures planner { planner.new ≡ planner.old }
 {
     while let Some(txn) = next_end(analysis.open_work.active(), &analysis.dues) {
@@ -119,26 +127,30 @@ fn undo_all_due<P: PageDevice + Drop, L: LogDevice + Drop, B: Level>(
     analysis: &mut Analysis,
     planner: &mut Planner<B>,
 ) -> Result<(), Refusal>
-    requires framed { AreAllFramed pages.old }
+    requires held { NoneHeld pages.old.frames }
+    requires more { 1 < length pages.old.frames }
     requires found { IsAnalysisOf analysis.old log.old.records }
     requires follow { L.honest log.old.device → FollowAll log.old.records }
     requires none { least_free analysis.old.dues analysis.old.open_work.active ≡ None }
     requires running { log.old.failed ≡ false }
     requires cells { KnowsCells pages.old.sizes pages.old.images planner.old }
-    ensures gone_on { OnOk result (L.honest log.new.device
+    ensures behind { OnOk result (L.honest log.new.device → AbortsBehind log.old.records log.new.records) }
+    ensures gone_on { OnOk result (HaveToldTruly P.PageDevice L.LogDevice pages.old pages.new log.new.device
         → HasAborted pages.old.sizes log.old.records pages.old log.new.records pages.new) }
-    ensures counted { OnOk result (ArePagesCounted pages.old.sizes (length log.old.records) (paged pages.old)
-        → ArePagesCounted pages.old.sizes (length log.new.records) (paged pages.new)) }
     ensures ended { OnOk result (IsEnded log.new.records) }
     ensures found { OnOk result (IsAnalysisOf analysis.new log.new.records) }
     ensures follow { OnOk result (L.honest log.new.device → FollowAll log.new.records) }
     ensures cells { OnOk result (KnowsCells pages.new.sizes pages.new.images planner.new) }
-    ensures stops { IfErr result (λ e. L.honest log.new.device
+    ensures stops { IfErr result (λ e. HaveToldTruly P.PageDevice L.LogDevice pages.old pages.new log.new.device
         → AbortingStops pages.old.sizes log.old.records pages.old e) }
-    ensures fails { IfErr result (λ e. FailsWith e (L.faults log.old.device) (L.faults log.new.device)) }
-    ensures cause { OnOk result (L.faults log.new.device ≡ L.faults log.old.device) }
-    ensures stays { HandsOverNothing L.LogDevice pages.old pages.new log.old log.new }
+    ensures goes_on { GoesOn P.PageDevice L.LogDevice pages.old log.old.device log.old.records result pages.new
+        log.new.device log.new.records }
+    ensures running { OnOk result (log.new.failed ≡ false) }
     ensures room { OnOk result (log.new.reserved ≡ log.old.reserved) }
+    ensures way { HaveBeenHonest P.PageDevice L.LogDevice pages.new.device log.new.device → (f : Found P L)
+        → StandsOver P.PageDevice L.LogDevice f (IsShown log.old.records pages.old) pages.old log.old
+        → OnOk result (StandsOver P.PageDevice L.LogDevice f (IsShown log.new.records pages.new) pages.new log.new)
+        × OnErr result (KeepsStore P.PageDevice L.LogDevice f pages.new.device log.new.device) }
 {
     while let Some((txn, lsn)) = newest_due(analysis) {
         log.shows_kept();
@@ -171,7 +183,8 @@ fn undo_due<P: PageDevice + Drop, L: LogDevice + Drop, B: Level>(
     planner: &mut Planner<B>,
     due: &PendingUndo,
 ) -> Result<(), Refusal>
-    requires framed { AreAllFramed pages.old }
+    requires held { NoneHeld pages.old.frames }
+    requires more { 1 < length pages.old.frames }
     requires found { IsAnalysisOf analysis.old log.old.records }
     requires follow { L.honest log.old.device → FollowAll log.old.records }
     requires none { least_free analysis.old.dues analysis.old.open_work.active ≡ None }
@@ -179,22 +192,25 @@ fn undo_due<P: PageDevice + Drop, L: LogDevice + Drop, B: Level>(
         × (first.txn ≡ due.now.txn) × (first.lsn ≡ due.now.lsn) × (L.honest log.old.device → due.now ≡ first) }
     requires running { log.old.failed ≡ false }
     requires cells { KnowsCells pages.old.sizes pages.old.images planner.old }
-    ensures gone_on { OnOk result (L.honest log.new.device
+    ensures behind { OnOk result (L.honest log.new.device → AbortsBehind log.old.records log.new.records) }
+    ensures gone_on { OnOk result (HaveToldTruly P.PageDevice L.LogDevice pages.old pages.new log.new.device
         → HasAborted pages.old.sizes log.old.records pages.old log.new.records pages.new) }
-    ensures counted { OnOk result (ArePagesCounted pages.old.sizes (length log.old.records) (paged pages.old)
-        → ArePagesCounted pages.old.sizes (length log.new.records) (paged pages.new)) }
     ensures rest { OnOk result ((first : PendingUndo) × (analysis.old.dues ≡ first ∷ analysis.new.dues)) }
     ensures lost { OnOk result (L.honest log.new.device → In due.now.txn analysis.old.open_work.active) }
     ensures active { OnOk result (analysis.new.open_work.active ≡ analysis.old.open_work.active) }
     ensures found { OnOk result (IsAnalysisOf analysis.new log.new.records) }
     ensures follow { OnOk result (L.honest log.new.device → FollowAll log.new.records) }
     ensures cells { OnOk result (KnowsCells pages.new.sizes pages.new.images planner.new) }
-    ensures stops { IfErr result (λ e. L.honest log.new.device
+    ensures stops { IfErr result (λ e. HaveToldTruly P.PageDevice L.LogDevice pages.old pages.new log.new.device
         → AbortingStops pages.old.sizes log.old.records pages.old e) }
-    ensures fails { IfErr result (λ e. FailsWith e (L.faults log.old.device) (L.faults log.new.device)) }
-    ensures cause { OnOk result (L.faults log.new.device ≡ L.faults log.old.device) }
-    ensures stays { HandsOverNothing L.LogDevice pages.old pages.new log.old log.new }
+    ensures goes_on { GoesOn P.PageDevice L.LogDevice pages.old log.old.device log.old.records result pages.new
+        log.new.device log.new.records }
+    ensures running { OnOk result (log.new.failed ≡ false) }
     ensures room { OnOk result (log.new.reserved ≡ log.old.reserved) }
+    ensures way { HaveBeenHonest P.PageDevice L.LogDevice pages.new.device log.new.device → (f : Found P L)
+        → StandsOver P.PageDevice L.LogDevice f (IsShown log.old.records pages.old) pages.old log.old
+        → OnOk result (StandsOver P.PageDevice L.LogDevice f (IsShown log.new.records pages.new) pages.new log.new)
+        × OnErr result (KeepsStore P.PageDevice L.LogDevice f pages.new.device log.new.device) }
 {
     log.shows_kept();
     if log.last() >= LOG_LIMIT {
@@ -214,7 +230,7 @@ fn undo_due<P: PageDevice + Drop, L: LogDevice + Drop, B: Level>(
     Ok(())
 }
 
-// Makes the writes by which what is due is taken back, each with its record.
+// Makes the writes by which what is due is taken back, each with its record. The page of each is brought into a frame for that.
 fn make_all<P: PageDevice + Drop, L: LogDevice + Drop, B: Level>(
     pages: &mut Pages<P>,
     log: &mut Log<L>,
@@ -224,7 +240,8 @@ fn make_all<P: PageDevice + Drop, L: LogDevice + Drop, B: Level>(
     operation: u64,
     writes: &[SlotWrite],
 ) -> Result<(), Refusal>
-    requires framed { AreAllFramed pages.old }
+    requires held { NoneHeld pages.old.frames }
+    requires more { 1 < length pages.old.frames }
     requires found { IsAnalysisOf analysis.old log.old.records }
     requires follow { L.honest log.old.device → FollowAll log.old.records }
     requires txn { IsTxnInRange due.now.txn }
@@ -232,29 +249,36 @@ fn make_all<P: PageDevice + Drop, L: LogDevice + Drop, B: Level>(
     requires slots { AreSlotWrites pages.old.sizes writes.now }
     requires running { log.old.failed ≡ false }
     requires cells { KnowsCells pages.old.sizes pages.old.images planner.old }
-    ensures gone_on { OnOk result (L.honest log.new.device → HasGoneOn pages.old.sizes
+    ensures records { OnOk result
+        (with_writes due.now.txn operation (take (length writes.now) writes.now) log.old.records ≡ log.new.records) }
+    ensures gone_on { OnOk result (HaveToldTruly P.PageDevice L.LogDevice pages.old pages.new log.new.device → HasGoneOn pages.old.sizes
         (with_writes due.now.txn operation (take (length writes.now) writes.now) log.old.records ≡ log.new.records)
         log.old.records log.new.records pages.old pages.new
         (IsShownWithin log.old.records pages.old due.now operation writes.now 0)
         (IsShownWithin log.new.records pages.new due.now operation writes.now (length writes.now))) }
-    ensures counted { OnOk result (ArePagesCounted pages.old.sizes (length log.old.records) (paged pages.old)
-        → ArePagesCounted pages.old.sizes (length log.new.records) (paged pages.new)) }
     ensures rest { OnOk result ((analysis.new.dues ≡ analysis.old.dues)
         × (analysis.new.open_work.active ≡ analysis.old.open_work.active)) }
     ensures found { OnOk result (IsAnalysisOf analysis.new log.new.records) }
     ensures follow { OnOk result (L.honest log.new.device → FollowAll log.new.records) }
     ensures cells { OnOk result (KnowsCells pages.new.sizes pages.new.images planner.new) }
-    ensures stops { IfErr result (λ e. L.honest log.new.device → AbortStops pages.old.sizes
+    ensures stops { IfErr result (λ e. HaveToldTruly P.PageDevice L.LogDevice pages.old pages.new log.new.device → AbortStops pages.old.sizes
         (IsMaking due.now.txn operation writes.now log.old.records) log.old.records pages.old
         (IsShownWithin log.old.records pages.old due.now operation writes.now 0) e) }
-    ensures fails { IfErr result (λ e. FailsWith e (L.faults log.old.device) (L.faults log.new.device)) }
-    ensures device { log.new.device ≡ log.old.device }
-    ensures stays { HandsOverNothing L.LogDevice pages.old pages.new log.old log.new }
+    ensures goes_on { GoesOn P.PageDevice L.LogDevice pages.old log.old.device log.old.records result pages.new
+        log.new.device log.new.records }
+    ensures running { OnOk result (log.new.failed ≡ false) }
     ensures room { OnOk result (log.new.reserved ≡ log.old.reserved) }
+    ensures way { HaveBeenHonest P.PageDevice L.LogDevice pages.new.device log.new.device → (f : Found P L)
+        → StandsOver P.PageDevice L.LogDevice f (IsShownWithin log.old.records pages.old due.now operation writes.now 0)
+        pages.old log.old
+        → OnOk result (StandsOver P.PageDevice L.LogDevice f
+        (IsShownWithin log.new.records pages.new due.now operation writes.now (length writes.now)) pages.new log.new)
+        × OnErr result (KeepsStore P.PageDevice L.LogDevice f pages.new.device log.new.device) }
 {
     for index in 0..writes.len() {
         let write = &writes[index];
         let undo = written(due, operation, write);
+        make_way(pages, log, &undo)?;
         append(pages, log, analysis, planner, &undo)?;
         planner.renew(pages, write.at);
     }
@@ -287,23 +311,25 @@ fn op_end(due: &PendingUndo) -> Record
     }
 }
 
-// The writes that take back what is due, over the slots as they are. Nobody has latched a page. No page is read, as each stands
-// in a frame.
+// The writes that take back what is due, over the slots as they are. Nobody has latched a page. Pages are read that stand in no
+// frame.
 fn plan<P: PageDevice, B: Level>(
     alloc: Global,
     pages: &mut Pages<P>,
     planner: &mut Planner<B>,
     due: &PendingUndo,
 ) -> Result<Vec<SlotWrite>, Refusal>
-    requires framed { AreAllFramed pages.old }
     requires cells { KnowsCells pages.old.sizes pages.old.images planner.old }
-    ensures same { pages.new ≡ pages.old }
-    ensures cells { KnowsCells pages.old.sizes pages.old.images planner.new }
-    ensures answered { IfOk result (λ writes.
+    ensures read { HasReadFor P.PageDevice pages.old result pages.new }
+    ensures same { planner.new ≡ planner.old }
+    ensures lawful { IfOk result (λ writes. AreSlotWrites pages.old.sizes writes.items) }
+    ensures answered { IsReadAsStored P.PageDevice pages.old pages.new → IfOk result (λ writes.
         IsPlannedAlone pages.old.sizes pages.old.images planner.old (end_due due.now) writes.items) }
-    ensures back { IfOk result (λ writes. IsTakingBack pages.old.sizes (slots_in pages.old.sizes pages.old.images)
-        (deed_by due.now.level due.now.deed) writes.items) }
-    ensures stops { IfErr result (λ e. PlanStops pages.old.sizes pages.old.images due.now e) }
+    ensures back { IsReadAsStored P.PageDevice pages.old pages.new → IfOk result (λ writes. IsTakingBack pages.old.sizes
+        (slots_in pages.old.sizes pages.old.images) (deed_by due.now.level due.now.deed) writes.items) }
+    ensures stops { IsReadAsStored P.PageDevice pages.old pages.new
+        → IfErr result (λ e. PlanStops pages.old.sizes pages.old.images due.now e) }
+    ensures names { IfErr result IsOfReads }
 {
     match planner.plan_inverse_alone(alloc, pages, &op_end(due)) {
         Ok(writes) => Ok(writes),

@@ -178,6 +178,7 @@ pub(crate) fn blamed(lsn: Lsn, refusal: Refusal) -> Refusal
 {
     match refusal {
         Refusal::NoMemory => Refusal::NoMemory,
+        Refusal::DiskRead => Refusal::DiskRead,
         _ => Refusal::Damaged(Damage::Record(lsn)),
     }
 }

@@ -1,8 +1,9 @@
 //! Records that a restart makes behind the log that it read.
-ghost use Rattle.std.specs.Prelude.{◌≡◌, ◌∷◌, ◌+◌, IfErr, IsTrue, OnOk, None, false, length};
+ghost use Rattle.std.specs.Prelude.{◌≡◌, ◌∷◌, ◌+◌, ◌-◌, ◌^◌, ◌<◌, ◌≤◌, IfErr, IfNone, IfSome, IsTrue, OnErr, OnOk, None, false, length};
 ghost use Rattle.rq_log.specs.Spelled.{AreSpelled};
 ghost use Rattle.rq_model.specs.Bases.{is_base};
-ghost use Rattle.rq_pool.specs.Fetching.{AreAllFramed};
+ghost use Rattle.rq_page.specs.Sizes.{page_count};
+ghost use Rattle.rq_pool.specs.KeptUp.{IsKeptUp};
 ghost use Rattle.rq_pool.specs.Pooled.{IsPool};
 ghost use Rattle.rq_record.specs.Spelling.{IsInRange};
 ghost use Rattle.rq_store.specs.Fitting.{told_by, image_in};
@@ -11,7 +12,8 @@ ghost use Rattle.rq_analysis.specs.LogTables.{PutsBack};
 ghost use Rattle.rq_analysis.specs.Rules.{CanBeRead, FollowAll};
 ghost use Rattle.rq_restart.specs.Found.{IsAnalysisOf};
 ghost use Rattle.rq_restart.specs.Repeating.{AreMarked, ArePagesCounted, Belongs, IsRecordRedone, paged};
-ghost use Rattle.rq_restart.specs.Undoing.{FailsWith, HandsOverNothing, StepStops};
+ghost use Rattle.rq_restart.specs.Standing.{NoneHeld};
+ghost use Rattle.rq_restart.specs.Undoing.{GoesOn, IsToBeWritten, MakesWay, NoPageFor, NamesNoDevice, StandsToWrite, StepStops};
 
 use crate::analysis::Analysis;
 use crate::redo::may_redo;
@@ -23,9 +25,52 @@ use rq_model::record::Record;
 use rq_model::refusal::{Damage, Refusal};
 use rq_model::txn::Lsn;
 use rq_page::addr::Addr;
+use rq_page::layout::Layout;
 use rq_planner::Planner;
 use rq_pool::Pages;
 use rq_record::{shows_fits, spelled_len};
+
+/// Has the page that a record writes stand in a frame, if the store has it. Another may give way, behind the force of all records.
+///
+/// # Errors
+/// What a device did: `DiskRead`, `DiskWrite`; `Damaged`, where that of the pages has lied.
+pub(crate) fn make_way<P: PageDevice + Drop, L: LogDevice + Drop>(
+    pages: &mut Pages<P>,
+    log: &mut Log<L>,
+    undo: &Record,
+) -> Result<(), Refusal>
+    requires running { log.old.failed ≡ false }
+    requires held { NoneHeld pages.old.frames }
+    requires more { 1 < length pages.old.frames }
+    ensures stands { OnOk result (StandsToWrite pages.new undo.now) }
+    ensures made { MakesWay P.PageDevice L.LogDevice pages.old log.old result pages.new log.new }
+{
+    let Some(page) = page_of(&pages.layout(), undo) else {
+        return Ok(());
+    };
+    if pages.stands(page) {
+        return Ok(());
+    }
+    log.shows_kept();
+    log.force()?;
+    pages.bring_in(page)
+}
+
+/// The page that a record writes, if the store has it.
+pub(crate) fn page_of(layout: &Layout, record: &Record) -> Option<u32>
+    ensures some { IfSome result (λ page. IsToBeWritten layout.now «record».now page) }
+    ensures none { IfNone result (NoPageFor layout.now «record».now) }
+{
+    let page = match record {
+        Record::PageOp { page, .. } => *page,
+        Record::PageUndo { page, .. } => *page,
+        _ => return None,
+    };
+    if page == 0 || page >= layout.pages() {
+        return None;
+    }
+    Some(page)
+}
 
 /// Appends a record that undoes something, which tells no deed or one that its level reads, and makes what it writes on the
 /// pages. The log hands nothing over.
@@ -40,7 +85,7 @@ pub(crate) fn append<P: PageDevice + Drop, L: LogDevice + Drop, B: Level>(
     planner: &mut Planner<B>,
     undo: &Record,
 ) -> Result<(), Refusal>
-    requires framed { AreAllFramed pages.old }
+    requires stands { StandsToWrite pages.old undo.now }
     requires found { IsAnalysisOf analysis.old log.old.records }
     requires follow { L.honest log.old.device → FollowAll log.old.records }
     requires running { log.old.failed ≡ false }
@@ -61,9 +106,15 @@ pub(crate) fn append<P: PageDevice + Drop, L: LogDevice + Drop, B: Level>(
     ensures same { OnOk result (told_by undo.now ≡ None → pages.new ≡ pages.old) }
     ensures stops { IfErr result (λ e. L.honest log.new.device → StepStops (length log.old.records)
         (Belongs pages.old.sizes log.old.records undo.now (paged pages.old)) e) }
-    ensures fails { IfErr result (λ e. FailsWith e (L.faults log.old.device) (L.faults log.new.device)) }
+    ensures fails { IfErr result NamesNoDevice }
+    ensures goes_on { GoesOn P.PageDevice L.LogDevice pages.old log.old.device log.old.records result pages.new
+        log.new.device log.new.records }
+    ensures running { log.new.failed ≡ false }
     ensures device { log.new.device ≡ log.old.device }
-    ensures stays { HandsOverNothing L.LogDevice pages.old pages.new log.old log.new }
+    ensures marked { AreMarked pages.old pages.new }
+    ensures sizes { pages.new.sizes ≡ pages.old.sizes }
+    ensures pages_device { pages.new.device ≡ pages.old.device }
+    ensures frames { pages.new.frames ≡ pages.old.frames }
     ensures room { OnOk result (log.new.reserved ≡ log.old.reserved) }
     ensures planner { planner.new ≡ planner.old }
 {
@@ -94,7 +145,7 @@ fn make<P: PageDevice + Drop, B: Level>(
     lsn: Lsn,
     undo: &Record,
 ) -> bool
-    requires framed { AreAllFramed pages.old }
+    requires stands { StandsToWrite pages.old undo.now }
     ensures redone { IsTrue result → Redoes (told_by undo.now) lsn (image_in pages.old.images)
         (image_in pages.new.images) }
     ensures marked { AreMarked pages.old pages.new }
@@ -114,14 +165,14 @@ fn make<P: PageDevice + Drop, B: Level>(
 }
 
 // Has the level of single slots make what a record writes, where its page is older.
-#[tactic(auto, using(crate::proofs::Framing::slot_framed, crate::proofs::Marking::same_marked, crate::proofs::Marking::applied_marked))]
+#[tactic(auto, using(crate::proofs::Marking::same_marked, crate::proofs::Marking::applied_marked))]
 fn make_write<P: PageDevice + Drop, B: Level>(
     pages: &mut Pages<P>,
     planner: &mut Planner<B>,
     lsn: Lsn,
     undo: &Record,
 )
-    requires framed { AreAllFramed pages.old }
+    requires stands { StandsToWrite pages.old undo.now }
     requires write { MayRedo pages.old.sizes (image_in pages.old.images) lsn undo.now }
     ensures redone { Redoes (told_by undo.now) lsn (image_in pages.old.images) (image_in pages.new.images) }
     ensures marked { AreMarked pages.old pages.new }

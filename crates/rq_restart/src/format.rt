@@ -13,9 +13,8 @@ use rq_page::layout::Layout;
 use rq_page::page::Page;
 use rq_pool::formatting::write_formatted;
 
-/// Writes the pages of an empty store with so many directory, cell and tag pages, and syncs them; the
-/// superblock last, behind a sync of the others, so that a store that was not formatted to its end does not open. No
-/// other page is touched.
+/// Writes the pages of an empty store with so many directory, cell and tag pages, and syncs them. The superblock comes last, behind
+/// a sync of the others, so a store that was not formatted to its end does not open. No other page is touched.
 ///
 /// # Errors
 /// `DiskWrite` exactly where the device fails: format again.

@@ -23,13 +23,13 @@ pub fn one_size()
     ensures { OneSizeEach }
 {}
 
-/// Of every log: the places that are kept are those of the PageOps of operations that have no end in it, and of the OpEnds of
-/// transactions that have none, and no others, by rising LSN.
+/// Of every log: places are kept of the PageOps of operations that have no end in it, and of the OpEnds of transactions that have
+/// none. No others are kept, and they stand by rising LSN.
 pub fn places_are_open()
     ensures { PlacesAreOpen }
 {}
 
-/// Of every log: each write that is not undone, and each deed that is to be taken back, is told by a record whose place is kept.
+/// Of every log: a record whose place is kept tells each write that is not undone, and each deed that is to be taken back.
 pub fn undos_have_places()
     ensures { UndosHavePlaces }
 {}

@@ -11,5 +11,6 @@ mod page_numbers;
 pub mod places;
 mod redo;
 pub mod restart;
+mod rolling_back;
 mod tables;
 mod undoing;

@@ -1,46 +1,40 @@
 //! Opening a store that a crash, or nothing at all, left behind.
-ghost use Rattle.std.specs.Prelude.{◌≡◌, ◌≢◌, [], ◌+◌, ◌<◌, ◌≤◌, ◌∷◌, IfOk, IfErr, OnOk, false, length};
-ghost use Rattle.rq_disk.specs.Device.{Images};
+ghost use Rattle.std.specs.Prelude.{◌≡◌, ◌≢◌, [], ◌+◌, ◌<◌, ◌≤◌, ◌∷◌, ◌++◌, Ok, Err, List, IfOk, IfErr, OnOk, false, length};
+ghost use Rattle.rq_disk.specs.Device.{FailureIsCounted, Images};
 ghost use Rattle.rq_model.specs.declared.record.Record.TheVariants as records;
 ghost use Rattle.rq_model.specs.declared.record.Record.{Record};
-ghost use Rattle.rq_views.specs.Stored.{slots_in};
 ghost use Rattle.rq_log.specs.Crash.{LeavesOnly};
-ghost use Rattle.rq_log.specs.Reading.{IsRead};
+ghost use Rattle.rq_log.specs.Reading.{BeginsWith, IsRead};
+ghost use Rattle.rq_page.specs.Sizes.{page_count};
 ghost use Rattle.rq_pool.specs.Fetching.{AreAllFramed};
-ghost use Rattle.rq_pool.specs.Fixing.{AreForcedTo};
 ghost use Rattle.rq_pool.specs.Pooled.{IsPool};
-ghost use Rattle.rq_pool.specs.Reading.{OnlyRead};
-ghost use Rattle.rq_planner.specs.Answered.{KnowsCells};
-ghost use Rattle.rq_engine.specs.Opened.{OpenStore, pooled};
 ghost use Rattle.rq_analysis.specs.Rules.{FollowAll};
-ghost use Rattle.rq_chain_check.specs.Links.{AreLinked};
-ghost use Rattle.rq_restart.specs.Repeating.{AreMarked, ArePagesCounted, Repeats, paged, slots_on};
-ghost use Rattle.rq_restart.specs.Opens.{KeepsStores, Opens, OpensWhole, ReadWhereEnough, Refuses};
-ghost use Rattle.rq_restart.specs.Restarting.{IsLogRead, OpensLog, RefusesLog, IsReady, IsRestarted, LeavesLog, WasLeftOrForced};
-ghost use Rattle.rq_restart.specs.Fewer.{KeepsFrames, StopsOut};
+ghost use Rattle.rq_restart.specs.Repeating.{Repeats, paged};
+ghost use Rattle.rq_restart.specs.Opens.{KeepsStores, Opens, ReadWhereEnough, Refuses};
+ghost use Rattle.rq_restart.specs.Restarting.{Continues, IsBegun, IsLogRead, OpensLog, RefusesLog, IsReady, IsRestarted, LeavesLog, WasLeftOrForced};
 ghost use Rattle.rq_restart.specs.Refused.{BeginsNot, IsStoppedBehind, WhyShut};
 ghost use Rattle.rq_restart.specs.Numbers.{AreNumbersOf};
+ghost use Rattle.rq_restart.specs.declared.analysis.Analysis.{Analysis as Findings};
 ghost use Rattle.rq_restart.specs.Found.{IsAnalysisOf};
-ghost use Rattle.rq_restart.specs.RolledBack.{HasRepeated, IsRolledBackSince, LinkStops, RollbackStops};
-ghost use Rattle.rq_restart.specs.Undoing.{FailsWith, HandsOverNothing};
+ghost use Rattle.rq_restart.specs.RolledBack.{HasRepeated};
+ghost use Rattle.rq_restart.specs.Standing.{Found, KeepsStore, NoneHeld, Stands, StandsRead};
+ghost use Rattle.rq_restart.specs.Telling.{GoesOnTelling};
+ghost use Rattle.rq_restart.specs.Undoing.{AreAsFound, FailsWith, GoesOn, HaveBeenHonest, HaveToldTruly, IsDurable, IsRepeatedOn, NoneFailed, failures};
 ghost use Rattle.rq_restart.specs.Underway.{pages_left, log_left};
 
-use crate::aborting::abort_lost;
 use crate::analysis::Analysis;
-use crate::appending::shows_pool;
 use crate::page_numbers::PageNumbers;
 use crate::redo::{check_page_numbers, repeat_history};
-use crate::tables::{EngineTables, read_slots, tell_cells};
-use crate::undoing::undo_unfinished;
-use rq_chain_check::first_broken;
+use crate::rolling_back::undo_all;
+use crate::tables::{EngineTables, read_slots};
 use rq_disk::{LogDevice, PageDevice};
 use rq_engine::engine::Engine;
 use rq_level::Level;
 use rq_log::{Log, LogReader};
 use rq_model::limits::LOG_LIMIT;
 use rq_model::record::Record;
-use rq_model::refusal::{Damage, Refusal};
-use rq_planner::{Planner, StoreLevels};
+use rq_model::refusal::Refusal;
+use rq_planner::StoreLevels;
 use rq_pool::Pages;
 use rq_pool::frame_count::FrameCount;
 use rq_record::{shows_fits, spelled_len};
@@ -82,14 +76,14 @@ pub struct Stopped<P, L> {
     pub log: L,
 }
 
-/// Opens a store: reads and checks its pages and its log, repeats history on the pages, undoes operations that have no
-/// end by their slots and transactions that have none by inverses, and forces the records of that with the Restart record
-/// of a new incarnation. Then it keeps so many `frames` beside that of the superblock, and writes pages out for that. The levels
-/// are dropped where it is refused.
+/// Opens a store. It reads and checks pages and log, and repeats history on the pages. Operations without an end are undone by
+/// slots, transactions without one by inverses. The records of that are forced, with the Restart record of a new incarnation. All
+/// that is done in so many `frames` beside that of the superblock. Where these are too few for the pages, all that the log's device
+/// reads as is forced first. Pages then give way to others, and are read again. The levels are dropped where it is refused.
 ///
 /// # Errors
-/// `NoMemory`; `DiskRead` or `DiskWrite` where a device fails, `Damaged` where a page or a record
-/// breaks the format, `LogFull` where there is no room for the records.
+/// `NoMemory`. `DiskRead` or `DiskWrite` where a device fails. `Damaged` where a page or a record breaks the format, or a device
+/// gives another than before. `LogFull` where there is no room for the records.
 pub fn restart<P: PageDevice + Drop, L: LogDevice + Drop, B: Level>(
     alloc: Global,
     pages: P,
@@ -98,82 +92,39 @@ pub fn restart<P: PageDevice + Drop, L: LogDevice + Drop, B: Level>(
     frames: FrameCount,
 ) -> Result<(Engine<P, L, B>, Report), Stopped<P, L>>
     ensures opened { IfOk result (λ o. Opens P.PageDevice L.LogDevice pages log frames.count o.0 o.1) }
-    ensures refused { IfErr result (λ stopped. Refuses P.PageDevice L.LogDevice pages log stopped.refusal stopped.pages
-        stopped.log) }
+    ensures refused { IfErr result (λ stopped. Refuses P.PageDevice L.LogDevice pages log frames.count stopped.refusal
+        stopped.pages stopped.log) }
     ensures left { KeepsStores P.PageDevice L.LogDevice pages log (pages_left result) (log_left result) }
     ensures enough { ReadWhereEnough P.PageDevice pages (pages_left result) frames.count }
 {
-    match restart_whole(alloc, pages, log, levels) {
-        Ok((engine, report)) => keep_frames(engine, report, frames),
-        Err(stopped) => Err(stopped),
-    }
-}
-
-// Lets go of frames until so many are left beside that of the superblock. Where a page cannot be written out for that, both
-// devices are given back.
-fn keep_frames<P: PageDevice + Drop, L: LogDevice + Drop, B: Level>(
-    mut engine: Engine<P, L, B>,
-    report: Report,
-    frames: FrameCount,
-) -> Result<(Engine<P, L, B>, Report), Stopped<P, L>>
-    requires running { engine.state.failed ≡ false }
-    requires idle { engine.state.rows ≡ [] }
-    requires forced { AreForcedTo (pooled engine) engine.state.forced }
-    ensures kept { IfOk result (λ o. KeepsFrames P.PageDevice L.LogDevice frames.count engine o.0 × (o.1 ≡ report)) }
-    ensures stopped { IfErr result (λ stopped. (store : OpenStore P L) × (store.pages ≡ stopped.pages)
-        × (store.log ≡ stopped.log) × StopsOut P.PageDevice L.LogDevice frames.count engine store stopped.refusal) }
-{
-    match engine.shrink(frames) {
-        Ok(()) => Ok((engine, report)),
-        Err(refusal) => {
-            let (pages, log) = engine.give_back();
-            Err(Stopped {
-                refusal,
-                pages,
-                log,
-            })
-        }
-    }
-}
-
-// Opens a store with each page in a frame.
-fn restart_whole<P: PageDevice + Drop, L: LogDevice + Drop, B: Level>(
-    alloc: Global,
-    pages: P,
-    log: L,
-    levels: StoreLevels<B>,
-) -> Result<(Engine<P, L, B>, Report), Stopped<P, L>>
-    ensures opened { IfOk result (λ o. OpensWhole P.PageDevice L.LogDevice pages log o.0 o.1) }
-    ensures refused { IfErr result (λ stopped. Refuses P.PageDevice L.LogDevice pages log stopped.refusal stopped.pages
-        stopped.log) }
-    ensures left { KeepsStores P.PageDevice L.LogDevice pages log (pages_left result) (log_left result) }
-    ensures read { IfErr result (λ stopped. OnlyRead P.PageDevice pages stopped.pages) }
-{
-    match Pages::load(alloc, pages) {
-        Ok(pages) => match restart_log(alloc, pages, log, levels) {
-            Ok(opened) => {
-                let Opened {
-                    pages,
-                    log,
-                    cells,
-                    tables,
-                    report,
-                } = opened;
-                let engine = Engine::open(
-                    alloc,
-                    pages,
-                    log,
-                    tables.waiting,
-                    tables.sent,
-                    tables.ends,
-                    report.incarnation,
-                    u64::from(cells),
-                    tables.planner,
-                );
-                Ok((engine, report))
+    match Pages::load(alloc, pages, frames) {
+        Ok((pages, numbers)) => {
+            let numbers = PageNumbers { numbers };
+            match restart_log(alloc, pages, &numbers, log, levels, frames) {
+                Ok(opened) => {
+                    let Opened {
+                        pages,
+                        log,
+                        cells,
+                        tables,
+                        report,
+                    } = opened;
+                    let engine = Engine::open(
+                        alloc,
+                        pages,
+                        log,
+                        tables.waiting,
+                        tables.sent,
+                        tables.ends,
+                        report.incarnation,
+                        u64::from(cells),
+                        tables.planner,
+                    );
+                    Ok((engine, report))
+                }
+                Err(stopped) => Err(stopped),
             }
-            Err(stopped) => Err(stopped),
-        },
+        }
         Err(stopped) => {
             let rq_pool::RefusedPages { refusal, device } = stopped;
             Err(Stopped {
@@ -189,18 +140,29 @@ fn restart_whole<P: PageDevice + Drop, L: LogDevice + Drop, B: Level>(
 fn restart_log<P: PageDevice + Drop, L: LogDevice + Drop, B: Level>(
     alloc: Global,
     mut pages: Pages<P>,
+    numbers: &PageNumbers,
     log: L,
     mut levels: StoreLevels<B>,
+    frames: FrameCount,
 ) -> Result<Opened<P, L, B>, Stopped<P, L>>
-    requires framed { AreAllFramed pages }
-    ensures opened { IfOk result (λ o. OpensLog L.LogDevice pages o.pages log o.log o.cells o.tables.waiting o.tables.sent
-        o.tables.planner o.report) }
-    ensures refused { IfErr result (λ stopped. RefusesLog L.LogDevice pages stopped.pages log stopped.log
+    requires held { NoneHeld pages.frames }
+    requires more { 1 < length pages.frames }
+    requires framed { page_count pages.sizes ≤ frames.count + 1 → AreAllFramed pages }
+    requires numbers { AreNumbersOf pages.sizes (paged pages) numbers.now.numbers.items }
+    ensures opened { IfOk result (λ o. OpensLog P.PageDevice L.LogDevice pages o.pages log o.log o.cells o.tables.waiting
+        o.tables.sent o.tables.planner o.report) }
+    ensures refused { IfErr result (λ stopped. RefusesLog P.PageDevice L.LogDevice pages stopped.pages log stopped.log
         stopped.refusal) }
+    ensures way { IfOk result (λ o. HaveBeenHonest P.PageDevice L.LogDevice o.pages.device o.log.device → (f : Found P L)
+        → StandsRead P.PageDevice L.LogDevice f pages (record { records = []; left = 0; device = log; first = log })
+        → KeepsStore P.PageDevice L.LogDevice f o.pages.device o.log.device) }
+    ensures way_back { IfErr result (λ stopped. HaveBeenHonest P.PageDevice L.LogDevice stopped.pages stopped.log → (f : Found P L)
+        → StandsRead P.PageDevice L.LogDevice f pages (record { records = []; left = 0; device = log; first = log })
+        → KeepsStore P.PageDevice L.LogDevice f stopped.pages stopped.log) }
 {
-    match read_and_redo(alloc, &mut pages, log, &mut levels) {
-        Ok((mut log, mut analysis, numbers)) => {
-            match finish_restart(alloc, &mut pages, &mut log, &mut analysis, &numbers, levels) {
+    match read_and_redo(alloc, &mut pages, log, &mut levels, frames) {
+        Ok((mut log, mut analysis)) => {
+            match finish_restart(alloc, &mut pages, &mut log, &mut analysis, numbers, levels) {
                 Ok((tables, report)) => {
                     let cells = pages.used_cells();
                     Ok(Opened {
@@ -229,50 +191,81 @@ fn restart_log<P: PageDevice + Drop, L: LogDevice + Drop, B: Level>(
     }
 }
 
-// Reads a log and repeats history on the pages, record by record.
+// Reads a log and repeats history on the pages, record by record. Where some page stands in no frame, what is read is made durable
+// first.
 fn read_and_redo<P: PageDevice + Drop, L: LogDevice + Drop, B: Level>(
     alloc: Global,
     pages: &mut Pages<P>,
     log: L,
     levels: &mut StoreLevels<B>,
-) -> Result<(Log<L>, Analysis, PageNumbers), rq_log::RefusedLog<L>>
-    requires framed { AreAllFramed pages.old }
+    frames: FrameCount,
+) -> Result<(Log<L>, Analysis), rq_log::RefusedLog<L>>
+    requires held { NoneHeld pages.old.frames }
+    requires more { 1 < length pages.old.frames }
+    requires framed { page_count pages.old.sizes ≤ frames.count + 1 → AreAllFramed pages.old }
     ensures read { IfOk result (λ read. IsLogRead L.LogDevice log read.0) }
     ensures found { IfOk result (λ read. IsAnalysisOf read.1 read.0.records) }
-    ensures repeated { IfOk result (λ read. L.honest read.0.device
-        → Repeats pages.new.sizes read.0.records (paged pages.old) (paged pages.new)) }
-    ensures counted { IfOk result (λ read. ArePagesCounted pages.new.sizes (length read.0.records) (paged pages.old)
-        → ArePagesCounted pages.new.sizes (length read.0.records) (paged pages.new)) }
-    ensures numbers { IfOk result (λ read. AreNumbersOf pages.new.sizes (paged pages.old) read.2.numbers.items) }
-    ensures stopped { IfErr result (λ stopped. L.honest stopped.device → IsStoppedBehind L.LogDevice pages.old.sizes
-        (paged pages.old) stopped.refusal log stopped.device) }
-    ensures fails { IfErr result (λ stopped. FailsWith stopped.refusal (L.faults log) (L.faults stopped.device)
-        × IsRead L.LogDevice log stopped.device) }
-    ensures marked { AreMarked pages.old pages.new }
-    ensures sizes { pages.new.sizes ≡ pages.old.sizes }
-    ensures device { pages.new.device ≡ pages.old.device }
-    ensures frames { pages.new.frames ≡ pages.old.frames }
+    ensures follow { IfOk result (λ read. L.honest read.0.device → FollowAll read.0.records) }
+    ensures repeated { IfOk result (λ read. HaveToldTruly P.PageDevice L.LogDevice pages.old pages.new read.0.device
+        → IsRepeatedOn pages.old.sizes [] (paged pages.old) read.0.records (paged pages.new)) }
+    ensures went { IfOk result (λ read. GoesOn P.PageDevice L.LogDevice pages.old log [] (Ok read.1) pages.new read.0.device
+        read.0.records) }
+    ensures stopped { IfErr result (λ stopped. HaveToldTruly P.PageDevice L.LogDevice pages.old pages.new stopped.device
+        → IsStoppedBehind L.LogDevice pages.old.sizes (paged pages.old) stopped.refusal log stopped.device) }
+    ensures stops { IfErr result (λ stopped. (front : List Record) × (L.honest stopped.device → BeginsWith front (L.seen log))
+        × GoesOn {X = Findings} P.PageDevice L.LogDevice pages.old log [] (Err stopped.refusal) pages.new stopped.device front) }
+    ensures only { IfErr result (λ stopped. IsRead L.LogDevice log stopped.device) }
+    ensures way { IfOk result (λ read. HaveBeenHonest P.PageDevice L.LogDevice pages.new.device read.0.device → (f : Found P L)
+        → StandsRead P.PageDevice L.LogDevice f pages.old (record { records = []; left = 0; device = log; first = log })
+        → Stands P.PageDevice L.LogDevice f pages.new read.0 × AreAsFound P.PageDevice L.LogDevice f read.0.records) }
+    ensures way_back { IfErr result (λ stopped. HaveBeenHonest P.PageDevice L.LogDevice pages.new.device stopped.device → (f : Found P L)
+        → StandsRead P.PageDevice L.LogDevice f pages.old (record { records = []; left = 0; device = log; first = log })
+        → KeepsStore P.PageDevice L.LogDevice f pages.new.device stopped.device) }
 {
-    let numbers = match PageNumbers::of_pages(alloc, pages) {
-        Ok(numbers) => numbers,
-        Err(refusal) => return Err(rq_log::RefusedLog {
-            refusal,
-            device: log,
-        }),
-    };
     match LogReader::new(alloc, log, WINDOW) {
-        Ok(mut reader) => match repeat_history(alloc, pages, &mut reader, levels) {
-            Ok(analysis) => {
-                reader.shows_read();
-                Ok((reader.into_log(alloc), analysis, numbers))
+        Ok(mut reader) => {
+            match make_durable(pages, &mut reader, frames) {
+                Ok(()) => {}
+                Err(refusal) => return Err(rq_log::RefusedLog {
+                    refusal,
+                    device: reader.give_back(),
+                }),
             }
-            Err(refusal) => Err(rq_log::RefusedLog {
-                refusal,
-                device: reader.give_back(),
-            }),
-        },
+            match repeat_history(alloc, pages, &mut reader, levels) {
+                Ok(analysis) => {
+                    reader.shows_read();
+                    Ok((reader.into_log(alloc), analysis))
+                }
+                Err(refusal) => {
+                    reader.shows_read();
+                    Err(rq_log::RefusedLog {
+                        refusal,
+                        device: reader.give_back(),
+                    })
+                }
+            }
+        }
         Err(stopped) => Err(stopped),
     }
+}
+
+// Makes durable what is read of a log, where some page stands in no frame.
+fn make_durable<P: PageDevice + Drop, L: LogDevice + Drop>(
+    pages: &Pages<P>,
+    reader: &mut LogReader<L>,
+    frames: FrameCount,
+) -> Result<(), Refusal>
+    requires framed { page_count pages.now.sizes ≤ frames.count + 1 → AreAllFramed pages.now }
+    ensures durable { OnOk result (IsDurable L.LogDevice pages.now reader.new.device) }
+    ensures err { IfErr result (λ e. e ≡ Refusal.DiskWrite) }
+    ensures cause { FailureIsCounted (L.faults reader.old.device) (L.faults reader.new.device) result }
+    ensures same { reader.new ≡ record reader.old { device = reader.new.device } }
+    ensures read { IsRead L.LogDevice reader.old.device reader.new.device }
+{
+    if pages.layout().pages() <= frames.count + 1 {
+        return Ok(());
+    }
+    reader.force()
 }
 
 // Checks the numbers of the pages, undoes what has no end in the log, which was gone through, and begins the next
@@ -285,35 +278,40 @@ fn finish_restart<P: PageDevice + Drop, L: LogDevice + Drop, B: Level>(
     numbers: &PageNumbers,
     levels: StoreLevels<B>,
 ) -> Result<(EngineTables<B>, Report), Refusal>
-    requires framed { AreAllFramed pages.old }
+    requires held { NoneHeld pages.old.frames }
+    requires more { 1 < length pages.old.frames }
     requires found { IsAnalysisOf analysis.old log.old.records }
+    requires follow { L.honest log.old.device → FollowAll log.old.records }
     requires running { log.old.failed ≡ false }
-    requires pages { (first : Images) × (L.honest log.old.device → Repeats pages.old.sizes log.old.records first (paged pages.old))
-        × AreNumbersOf pages.old.sizes first numbers.now.numbers.items
-        × (ArePagesCounted pages.old.sizes (length log.old.records) first
-        → ArePagesCounted pages.old.sizes (length log.old.records) (paged pages.old)) }
+    requires numbers { (first : Images) × AreNumbersOf pages.old.sizes first numbers.now.numbers.items }
     // What the log comes to, and what is left of it.
     ensures restarted { IfOk result (λ begun. IsRestarted L.LogDevice pages.new.sizes pages.new.images log.old log.new
         begun.0.waiting begun.0.sent begun.0.planner begun.1) }
-    ensures left { LeavesLog L.LogDevice pages.old.sizes (paged pages.old) log.old log.new }
-    // What stays of the pages.
-    ensures marked { AreMarked pages.old pages.new }
-    ensures sizes { pages.new.sizes ≡ pages.old.sizes }
+    ensures begun { OnOk result (L.honest log.new.device → IsBegun log.old.records log.new) }
+    ensures left { AreAllFramed pages.old → LeavesLog L.LogDevice pages.old.sizes (paged pages.old) log.old log.new }
+    // What it leaves of both devices.
+    ensures continues { Continues P.PageDevice L.LogDevice pages.old log.old.device log.old.records pages.new log.new.device
+        log.new.records }
+    ensures counted { OnOk result (NoneFailed P.PageDevice L.LogDevice pages.old.device log.old.device pages.new.device
+        log.new.device) }
+    ensures fails { IfErr result (λ e. FailsWith P.PageDevice pages.old.device pages.new.device e
+        (failures L.faults log.old.device log.new.device)) }
+    ensures read { IfErr result (λ e. AreAllFramed pages.old → (e ≢ Refusal.DiskWrite)
+        → IsRead L.LogDevice log.old.device log.new.device) }
+    ensures telling { GoesOnTelling L.LogDevice log.old.device log.new.device (IfErr result (λ e. e ≢ Refusal.DiskWrite)) }
     ensures pool { OnOk result (IsPool pages.new.sizes pages.new.images) }
-    ensures pages { pages.new.device ≡ pages.old.device }
-    ensures frames { pages.new.frames ≡ pages.old.frames }
     // What was checked, or why it was refused.
-    ensures checked { OnOk result (L.honest log.new.device → (first : Images)
+    ensures checked { OnOk result (HaveToldTruly P.PageDevice L.LogDevice pages.old pages.new log.new.device → (first : Images)
         → Repeats pages.old.sizes log.old.records first (paged pages.old)
         → AreNumbersOf pages.old.sizes first numbers.now.numbers.items
         → HasRepeated pages.old.sizes log.old.records log.new.records first (paged pages.new)) }
-    ensures shut { IfErr result (λ e. L.honest log.new.device → (first : Images)
+    ensures shut { IfErr result (λ e. HaveToldTruly P.PageDevice L.LogDevice pages.old pages.new log.new.device → (first : Images)
         → Repeats pages.old.sizes log.old.records first (paged pages.old)
         → AreNumbersOf pages.old.sizes first numbers.now.numbers.items
-        → WhyShut pages.old.sizes log.old.records first e (L.faults log.old.device) (L.faults log.new.device)
-        (IsRead L.LogDevice log.old.device log.new.device)) }
-    ensures fails { IfErr result (λ e. FailsWith e (L.faults log.old.device) (L.faults log.new.device)) }
-    ensures read { IfErr result (λ e. (e ≢ Refusal.DiskWrite) → IsRead L.LogDevice log.old.device log.new.device) }
+        → WhyShut pages.old.sizes log.old.records first e) }
+    ensures way { HaveBeenHonest P.PageDevice L.LogDevice pages.new.device log.new.device → (f : Found P L)
+        → Stands P.PageDevice L.LogDevice f pages.old log.old → AreAsFound P.PageDevice L.LogDevice f log.old.records
+        → KeepsStore P.PageDevice L.LogDevice f pages.new.device log.new.device }
 {
     match check_page_numbers(numbers, log.last()) {
         Ok(()) => {}
@@ -324,7 +322,7 @@ fn finish_restart<P: PageDevice + Drop, L: LogDevice + Drop, B: Level>(
         Ok(undone) => undone,
         Err(refusal) => return Err(refusal),
     };
-    let tables = match read_slots(alloc, pages, planner) {
+    let tables = match read_slots(alloc, pages, planner, log.last()) {
         Ok(tables) => tables,
         Err(refusal) => return Err(refusal),
     };
@@ -334,62 +332,7 @@ fn finish_restart<P: PageDevice + Drop, L: LogDevice + Drop, B: Level>(
     }
 }
 
-// That the senders' chains are whole; else it is refused with the page to be named. No page is read, as each stands in a frame.
-fn check_links<P: PageDevice>(alloc: Global, pages: &mut Pages<P>) -> Result<(), Refusal>
-    requires framed { AreAllFramed pages.old }
-    ensures linked { OnOk result (AreLinked pages.old.sizes (slots_in pages.old.sizes pages.old.images)) }
-    ensures stops { IfErr result (λ e. LinkStops pages.old.sizes (slots_in pages.old.sizes pages.old.images) e) }
-    ensures pool { IsPool pages.old.sizes pages.old.images }
-    ensures same { pages.new ≡ pages.old }
-{
-    shows_pool(pages);
-    match first_broken(alloc, pages) {
-        Ok(Some(page)) => Err(Refusal::Damaged(Damage::Page(page))),
-        Ok(None) => Ok(()),
-        Err(refusal) => Err(refusal),
-    }
-}
-
-// Undoes what has no end in the log, of which these are the findings: operations, and then transactions; and looks whether
-// the senders' chains are whole then. Gives how many transactions there were, and what plans operations, told of each cell.
-fn undo_all<P: PageDevice + Drop, L: LogDevice + Drop, B: Level>(
-    alloc: Global,
-    pages: &mut Pages<P>,
-    log: &mut Log<L>,
-    analysis: &mut Analysis,
-    levels: StoreLevels<B>,
-) -> Result<(u64, Planner<B>), Refusal>
-    requires framed { AreAllFramed pages.old }
-    requires found { IsAnalysisOf analysis.old log.old.records }
-    requires follow { L.honest log.old.device → FollowAll log.old.records }
-    requires running { log.old.failed ≡ false }
-    ensures rolls_back { OnOk result (L.honest log.new.device → IsRolledBackSince pages.old.sizes log.old.records log.new.records
-        (paged pages.old) (paged pages.new)) }
-    ensures counted { OnOk result (ArePagesCounted pages.old.sizes (length log.old.records) (paged pages.old)
-        → ArePagesCounted pages.old.sizes (length log.new.records) (paged pages.new)) }
-    ensures linked { OnOk result (AreLinked pages.old.sizes (slots_on pages.old.sizes (paged pages.new))) }
-    ensures lost { IfOk result (λ rolled_back. rolled_back.0 ≡ length analysis.old.open_work.active) }
-    ensures known { IfOk result (λ rolled_back. KnowsCells pages.new.sizes pages.new.images rolled_back.1) }
-    ensures found { OnOk result (IsAnalysisOf analysis.new log.new.records) }
-    ensures stops { IfErr result (λ e. L.honest log.new.device → (first : Images)
-        → Repeats pages.old.sizes log.old.records first (paged pages.old)
-        → RollbackStops pages.old.sizes log.old.records first e) }
-    ensures fails { IfErr result (λ e. FailsWith e (L.faults log.old.device) (L.faults log.new.device)) }
-    ensures cause { OnOk result (L.faults log.new.device ≡ L.faults log.old.device) }
-    ensures stays { HandsOverNothing L.LogDevice pages.old pages.new log.old log.new }
-    ensures room { OnOk result (log.new.reserved ≡ log.old.reserved) }
-{
-    let lost = analysis.open_work.active().len() as u64;
-    let mut planner = Planner::new(alloc, levels);
-    undo_unfinished(alloc, pages, log, analysis, &mut planner)?;
-    tell_cells(pages, &mut planner)?;
-    abort_lost(alloc, pages, log, analysis, &mut planner)?;
-    match check_links(alloc, pages) {
-        Ok(()) => Ok((lost, planner)),
-        Err(refusal) => Err(refusal),
-    }
-}
-
+// Begins the incarnation behind the last: its record is made and forced with all before.
 fn begin_incarnation<L: LogDevice + Drop>(
     log: &mut Log<L>,
     last: u64,
@@ -407,7 +350,9 @@ fn begin_incarnation<L: LogDevice + Drop>(
     ensures honest { L.honest log.new.device → L.honest log.old.device }
     ensures any_moment { L.honest log.new.device → LeavesOnly L.LogDevice log.old.device log.new.device
         (WasLeftOrForced L.LogDevice log.old.device (records.Restart (last + 1) ∷ log.old.records) log.old.forced) }
+    ensures telling { GoesOnTelling L.LogDevice log.old.device log.new.device (IfErr result (λ e. e ≢ Refusal.DiskWrite)) }
     ensures room { OnOk result (log.new.reserved ≡ log.old.reserved) }
+    ensures behind { (made : List Record) × (log.new.records ≡ made ++ log.old.records) }
     ensures err { IfErr result (λ e. BeginsNot e (length log.old.records) last (L.faults log.old.device) (L.faults
         log.new.device) (log.new.device ≡ log.old.device)) }
 {

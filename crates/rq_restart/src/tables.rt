@@ -1,18 +1,23 @@
 //! What the slots of a store in which nothing is open tell: of each sender what waits and what it sent, of each client what
-//! it marked, and which cells are free.
-ghost use Rattle.std.specs.Prelude.{◌≡◌, ◌+◌, [], IfErr, IfOk, OnErr, OnOk};
+//! it marked.
+ghost use Rattle.std.specs.Prelude.{◌≡◌, ◌⊎◌, ◌+◌, ◌/◌, ◌≤◌, ◌<◌, ◌^◌, [], List, ℕ, IfErr, IfOk, OnOk};
+ghost use Rattle.rq_model.specs.declared.refusal.Damage.TheVariants.{Page};
 ghost use Rattle.rq_page.specs.Sizes.{client_count, sender_count};
-ghost use Rattle.rq_pool.specs.Fetching.{AreAllFramed, HasReadFor, IsUnread};
+ghost use Rattle.rq_pool.specs.Fetching.{HasReadFor, IsReadAsStored};
 ghost use Rattle.rq_pool.specs.Pooled.{IsPool};
-ghost use Rattle.rq_store.specs.Opening.{sent_in_slots, waiting_in};
+ghost use Rattle.rq_groups.specs.Sent.{sent_count};
 ghost use Rattle.rq_planner.specs.Answered.{KnowsCells};
-ghost use Rattle.rq_planner.specs.Handed.{AreForStores};
-ghost use Rattle.rq_restart.specs.Tables.{AreSentTo, AreWaitingTo};
+ghost use Rattle.rq_restart.specs.Repeating.{ArePagesCounted, paged};
+ghost use Rattle.rq_restart.specs.Restarting.{AreTold};
+ghost use Rattle.rq_restart.specs.Tables.{AreSentTo, AreWaitingTo, NotTabled};
+ghost use Rattle.rq_restart.specs.Undoing.{IsOfReads};
 
+use crate::appending::shows_pool;
 use rq_disk::PageDevice;
 use rq_groups::{Ends, LastTag, Sent, Waiting};
 use rq_level::Level;
-use rq_model::refusal::Refusal;
+use rq_model::refusal::{Damage, Refusal};
+use rq_page::addr::Addr;
 use rq_planner::Planner;
 use rq_pool::Pages;
 use std::alloc::Global;
@@ -28,59 +33,67 @@ pub(crate) struct EngineTables<B: Level> {
     ghost free: { ends ≡ record { sending = []; receiving = [] } },
 }
 
-/// What the slots tell: of each sender those messages wait that were sent and not received. No page is read, as each stands in a
-/// frame.
+/// What the slots tell, of a store over a log of so many records: of each sender those messages wait that were sent and not
+/// received. Pages are read that stand in no frame.
 ///
 /// # Errors
-/// `NoMemory`.
+/// `NoMemory`; `DiskRead`; `Damaged` with the page of a slot that tells of more than the records, or that a device gave that has
+/// lied.
 pub(crate) fn read_slots<P: PageDevice + Drop, B: Level>(
     alloc: Global,
     pages: &mut Pages<P>,
     planner: Planner<B>,
+    records: u64,
 ) -> Result<EngineTables<B>, Refusal>
-    requires framed { AreAllFramed pages.old }
     requires known { KnowsCells pages.old.sizes pages.old.images planner }
-    ensures waiting { IfOk result (λ tables. tables.waiting ≡ waiting_in pages.old.sizes pages.old.images) }
-    ensures sent { IfOk result (λ tables. tables.sent ≡ sent_in_slots pages.old.sizes pages.old.images) }
-    ensures known { IfOk result (λ tables. KnowsCells pages.old.sizes pages.old.images tables.planner) }
-    ensures pool { IsPool pages.old.sizes pages.old.images }
-    ensures same { pages.new ≡ pages.old }
-    ensures err { IfErr result (λ e. e ≡ Refusal.NoMemory) }
+    ensures told { IfOk result (λ tables. AreTold pages.new.sizes pages.new.images records tables.waiting tables.sent) }
+    ensures known { IfOk result (λ tables. KnowsCells pages.new.sizes pages.new.images tables.planner) }
+    ensures pool { OnOk result (IsPool pages.new.sizes pages.new.images) }
+    ensures read { HasReadFor P.PageDevice pages.old result pages.new }
+    ensures stops { IfErr result (λ e. IsReadAsStored P.PageDevice pages.old pages.new
+        → ArePagesCounted pages.old.sizes records (paged pages.old) → (e ≡ Refusal.NoMemory) ⊎ (e ≡ Refusal.DiskRead)) }
+    ensures names { IfErr result IsOfReads }
 {
     let senders = pages.layout().senders();
     let clients = pages.layout().clients();
     let mut waiting = Waiting::new(alloc, senders)?;
     let mut sent = Sent::new(alloc, senders + clients)?;
     let ends = Ends::new(alloc, senders, clients)?;
-    read_tables(pages, senders, clients, &mut waiting, &mut sent)?;
-    Ok(EngineTables {
-        waiting,
-        sent,
-        ends,
-        planner,
-    })
+    match read_tables(pages, records, senders, clients, &mut waiting, &mut sent) {
+        Ok(()) => {
+            shows_pool(pages);
+            Ok(EngineTables {
+                waiting,
+                sent,
+                ends,
+                planner,
+            })
+        }
+        Err(refusal) => Err(refusal),
+    }
 }
 
-// Fills the tables. No page is read, as each stands in a frame, so it is never refused.
+// Fills the tables. Pages may be read.
 fn read_tables<P: PageDevice + Drop>(
     pages: &mut Pages<P>,
+    records: u64,
     senders: u32,
     clients: u32,
     waiting: &mut Waiting,
     sent: &mut Sent,
 ) -> Result<(), Refusal>
-    requires framed { AreAllFramed pages.old }
     requires senders { senders ≡ sender_count pages.old.sizes }
     requires clients { clients ≡ client_count pages.old.sizes }
     requires waiting { AreWaitingTo pages.old.sizes pages.old.images 0 waiting.old }
     requires sent { AreSentTo pages.old.sizes pages.old.images 0 sent.old }
-    ensures waiting { OnOk result (AreWaitingTo pages.old.sizes pages.old.images senders waiting.new) }
-    ensures sent { OnOk result (AreSentTo pages.old.sizes pages.old.images (senders + clients) sent.new) }
-    ensures same { pages.new ≡ pages.old }
-    ensures never { OnErr result ⊥ }
+    ensures waiting { OnOk result (AreWaitingTo pages.new.sizes pages.new.images senders waiting.new) }
+    ensures sent { OnOk result (AreSentTo pages.new.sizes pages.new.images (senders + clients) sent.new) }
+    ensures few { OnOk result ((place : ℕ) → sent_count sent.new place ≤ records) }
+    ensures read { HasReadFor P.PageDevice pages.old result pages.new }
+    ensures causes { IfErr result (λ e. NotTabled P.PageDevice records pages.old e pages.new) }
 {
-    match read_directory(pages, senders, waiting, sent) {
-        Ok(()) => read_clients(pages, senders, clients, sent),
+    match read_directory(pages, records, senders, waiting, sent) {
+        Ok(()) => read_clients(pages, records, senders, clients, sent),
         Err(refusal) => Err(refusal),
     }
 }
@@ -88,6 +101,7 @@ fn read_tables<P: PageDevice + Drop>(
 // Of each sender how many messages wait, and what its sends come to. Pages may be read.
 fn read_directory<P: PageDevice + Drop>(
     pages: &mut Pages<P>,
+    records: u64,
     senders: u32,
     waiting: &mut Waiting,
     sent: &mut Sent,
@@ -97,14 +111,18 @@ fn read_directory<P: PageDevice + Drop>(
     requires sent { AreSentTo pages.old.sizes pages.old.images 0 sent.old }
     ensures waiting { OnOk result (AreWaitingTo pages.new.sizes pages.new.images senders waiting.new) }
     ensures sent { OnOk result (AreSentTo pages.new.sizes pages.new.images senders sent.new) }
+    ensures few { OnOk result ((place : ℕ) → sent_count sent.new place ≤ records) }
     ensures read { HasReadFor P.PageDevice pages.old result pages.new }
-    ensures causes { IfErr result (λ e. IsUnread P.PageDevice pages.old e pages.new) }
+    ensures causes { IfErr result (λ e. NotTabled P.PageDevice records pages.old e pages.new) }
 {
     for sender in 0..senders {
         let group = match pages.read_group(sender) {
             Ok(group) => group,
             Err(refusal) => return Err(refusal),
         };
+        if group.sent > records {
+            return Err(beyond(pages.layout().directory_of(sender)));
+        }
         waiting.add(sender, group.sent.saturating_sub(group.received));
         let last = LastTag {
             sent: group.sent,
@@ -118,6 +136,7 @@ fn read_directory<P: PageDevice + Drop>(
 // Behind the senders, what each client's marks come to. Pages may be read.
 fn read_clients<P: PageDevice + Drop>(
     pages: &mut Pages<P>,
+    records: u64,
     senders: u32,
     clients: u32,
     sent: &mut Sent,
@@ -125,15 +144,22 @@ fn read_clients<P: PageDevice + Drop>(
     requires senders { senders ≡ sender_count pages.old.sizes }
     requires clients { clients ≡ client_count pages.old.sizes }
     requires sent { AreSentTo pages.old.sizes pages.old.images senders sent.old }
+    requires few { (place : ℕ) → sent_count sent.old place ≤ records }
     ensures sent { OnOk result (AreSentTo pages.new.sizes pages.new.images (senders + clients) sent.new) }
+    ensures few { OnOk result ((place : ℕ) → sent_count sent.new place ≤ records) }
+    ensures waiting { OnOk result ((waiting : List ℕ) → AreWaitingTo pages.old.sizes pages.old.images senders waiting
+        → AreWaitingTo pages.new.sizes pages.new.images senders waiting) }
     ensures read { HasReadFor P.PageDevice pages.old result pages.new }
-    ensures causes { IfErr result (λ e. IsUnread P.PageDevice pages.old e pages.new) }
+    ensures causes { IfErr result (λ e. NotTabled P.PageDevice records pages.old e pages.new) }
 {
     for client in 0..clients {
         let held = match pages.read_client(client) {
             Ok(held) => held,
             Err(refusal) => return Err(refusal),
         };
+        if held.count > records {
+            return Err(beyond(pages.layout().client_slot_of(client)));
+        }
         let last = LastTag {
             sent: held.count,
             tag: held.tag,
@@ -143,18 +169,10 @@ fn read_clients<P: PageDevice + Drop>(
     Ok(())
 }
 
-/// Tells the levels of a planner, as they were handed in, each slot that they keep anything of. No page is read, as each stands in
-/// a frame, so it is never refused.
-pub(crate) fn tell_cells<P: PageDevice + Drop, B: Level>(
-    pages: &mut Pages<P>,
-    planner: &mut Planner<B>,
-) -> Result<(), Refusal>
-    requires framed { AreAllFramed pages.old }
-    requires levels { AreForStores planner.old }
-    ensures same { pages.new ≡ pages.old }
-    ensures known { OnOk result (KnowsCells pages.old.sizes pages.old.images planner.new) }
-    ensures never { OnErr result ⊥ }
+// Damage of the page on which this slot stands.
+fn beyond(at: Addr) -> Refusal
+    requires { at / 16 < 2 ^ 32 }
+    ensures { result ≡ Refusal.Damaged (Page (at / 16)) }
 {
-    pages.shows_kept();
-    planner.tell(pages)
+    Refusal::Damaged(Damage::Page(at.page() as u32))
 }

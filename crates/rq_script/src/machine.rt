@@ -17,6 +17,9 @@ pub trait Medium<K, D> {
     /// Opens the store that the devices hold. Where that is refused, they are left.
     fn open(&mut self, devices: D) -> Result<(K, Report), (Refusal, D)>;
 
+    /// The same with a frame for each page.
+    fn open_framed(&mut self, devices: D) -> Result<(K, Report), (Refusal, D)>;
+
     /// Makes a call.
     fn ask(&mut self, kept: &mut K, event: Event) -> Reply;
 
@@ -167,15 +170,16 @@ impl<K: Drop, D: Drop, M: Medium<K, D>> Machine<K, D, M> {
         CommandResult::Restarted(report)
     }
 
-    // Opens the store after a crash up to the append of its records. Leaves it as the machine does that stops once so
-    // many of them are kept. Where there are no more than that, or where that append shall fail, the store is opened.
+    // Opens the store after a crash up to the append of its records. With a frame for each page that is its first write, and has all of
+    // them. Leaves it as the machine does that stops once so many of them are kept. Where there are no more than that, or where that
+    // append shall fail, the store is opened.
     fn stop_in_restart(&mut self, devices: D, kept: u64) -> CommandResult {
         if self.medium.switch().is_armed(CallKind::Write) {
             return self.open(devices);
         }
         let before = self.medium.last(&devices);
         self.medium.switch().arm_kind(CallKind::Write, Mishap::Stop);
-        let opened = self.medium.open(devices);
+        let opened = self.medium.open_framed(devices);
         let has_stopped = has_stopped(self.medium.switch());
         match opened {
             Ok((kept, report)) => self.run_on(kept, report),

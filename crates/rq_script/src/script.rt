@@ -16,7 +16,8 @@ use std::io::{Read, Write};
 
 /// Runs a script to its end, or to a fault, and answers the exit status: 0, or 1 after a fault. What its commands print
 /// is written as they are carried out. A script's refusals are lines like any other. Each opening has the store in so many
-/// frames. The first takes a set of levels, the last one that is left, and so does each restart. A `restart N` that makes no
+/// frames, but for a `restart N` up to its stop: that has a frame for each page. The first takes a set of levels, the last one that
+/// is left, and so does each restart. A `restart N` that makes no
 /// more than N records takes two. Where none is left, `fault 1 NoMemory` is printed.
 pub fn run_script<R: Read, W: Write, B: Level>(
     alloc: Global,

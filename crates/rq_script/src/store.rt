@@ -24,7 +24,7 @@ const PASS: u64 = 1;
 pub struct Memory<B: Level> {
     alloc: Global,
     switch: Switch,
-    /// In how many frames each opening has the store.
+    /// In how many frames an opening has the store.
     frames: FrameCount,
     /// The sets of levels that are left; each opening takes the last of them.
     sets: Vec<StoreLevels<B>>,
@@ -53,6 +53,19 @@ impl<B: Level> Memory<B> {
         };
         Ok((memory, (pages, log)))
     }
+
+    // Opens the store with the last set of levels, in so many frames.
+    fn open_in(
+        &mut self,
+        devices: (MemPages, MemLog),
+        frames: FrameCount,
+    ) -> Result<(Kept<MemPages, MemLog, B>, Report), (Refusal, (MemPages, MemLog))> {
+        let (pages, log) = devices;
+        match self.sets.pop() {
+            Some(levels) => open(self.alloc, pages, log, levels, frames),
+            None => Err((Refusal::NoMemory, (pages, log))),
+        }
+    }
 }
 
 impl<B: Level> Medium<Kept<MemPages, MemLog, B>, (MemPages, MemLog)> for Memory<B> {
@@ -60,11 +73,15 @@ impl<B: Level> Medium<Kept<MemPages, MemLog, B>, (MemPages, MemLog)> for Memory<
         &mut self,
         devices: (MemPages, MemLog),
     ) -> Result<(Kept<MemPages, MemLog, B>, Report), (Refusal, (MemPages, MemLog))> {
-        let (pages, log) = devices;
-        match self.sets.pop() {
-            Some(levels) => open(self.alloc, pages, log, levels, self.frames),
-            None => Err((Refusal::NoMemory, (pages, log))),
-        }
+        let frames = self.frames;
+        self.open_in(devices, frames)
+    }
+
+    fn open_framed(
+        &mut self,
+        devices: (MemPages, MemLog),
+    ) -> Result<(Kept<MemPages, MemLog, B>, Report), (Refusal, (MemPages, MemLog))> {
+        self.open_in(devices, FrameCount::most())
     }
 
     fn ask(&mut self, kept: &mut Kept<MemPages, MemLog, B>, event: Event) -> Reply {

@@ -297,8 +297,7 @@ fn checkpoint_after<'a>(alloc: Global) -> Arg<'a> {
 }
 
 fn frames<'a>(alloc: Global) -> Arg<'a> {
-    let help =
-        "Pages that are kept in memory beside the superblock once the store is open, else 64";
+    let help = "Pages that are kept in memory beside the superblock, else 64";
     let (fewest, most) = (i64::from(FrameCount::FEWEST), i64::from(FrameCount::MOST));
     number(alloc, "frames", help, fewest, most)
 }

@@ -8,4 +8,4 @@ pub returns-clause-frames : goal.returns-clause-frames
 returns-clause-frames g c = framed_in c.args.pages c.args.log c.args.frames.count c.restart.result c.restart.ensures.opened
 
 pub returns-clause-refused : goal.returns-clause-refused
-returns-clause-refused g c = stays c.args.pages c.args.log c.restart.result c.restart.ensures.refused c.restart.ensures.left
+returns-clause-refused g c = stays c.args.pages c.args.log c.args.frames.count c.restart.result c.restart.ensures.refused c.restart.ensures.left

@@ -7,8 +7,8 @@ pub returns-in-Err-read_frames-clause-stopped : goal.returns-in-Err-read_frames-
 returns-in-Err-read_frames-clause-stopped g c =
     stops_later g.P.PageDevice c.args.device c.read_superblock.new.device c.read_frames.new.device c.in-Err-read_frames.refusal c.in-Ok.ensures.device.same c.in-Ok.ensures.cause c.in-Err-read_frames.ensures.err
 
-pub invariant_of-result : goal.invariant_of-result
-invariant_of-result g c =
+pub invariant_of-pages : goal.invariant_of-pages
+invariant_of-pages g c =
     let P = g.P.PageDevice in
     let r = c.in-Ok-read_frames.ensures in
     (over_loaded P _ _ _ c.read_superblock.new.device c.read_frames.new.device (pool_loaded _ _ r.ok) r.changed r.seen r.device.same, r.free, r.closed, r.first, r.tied, tt)
@@ -20,4 +20,4 @@ returns-in-Ok-read_frames-clause-device g c =
 pub returns-in-Ok-read_frames-clause-framed : goal.returns-in-Ok-read_frames-clause-framed
 returns-in-Ok-read_frames-clause-framed g c =
     let r = c.in-Ok-read_frames.ensures in
-    λ p behind lt. all_framed _ _ _ _ _ r.tied r.stand p (rw (r.ok.count) lt)
+    λ enough p behind lt. all_framed _ _ _ _ _ r.tied (r.stand enough) p (rw (r.ok.count) lt)

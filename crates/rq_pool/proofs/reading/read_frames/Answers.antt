@@ -1,15 +1,15 @@
-use Rattle.std.proofs.Common.{◌≡◌, ◌∙◌, ◌++◌, ◌∷◌, [], ℕ, List, length, Bool, Option, Some, false, nat_eq, ap, arith, refl, replicate, rules, subst, sym, true}
-use Rattle.std.proofs.lemmas.List.{length-map, replicate_more}
+use Rattle.std.proofs.Common.{◌≡◌, ◌∙◌, ◌++◌, ◌∷◌, [], ℕ, ◌+◌, List, length, min, Bool, false, ap, arith, refl, replicate, rules, subst, sym}
+use Rattle.std.proofs.lemmas.List.{replicate_more}
 use Rattle.rq_model.specs.declared.refusal.Refusal.TheVariants as why
 use Rattle.rq_disk.specs.Device.{Images}
 use Rattle.rq_page.specs.Sizes.{page_count}
 use Rattle.rq_pool.specs.declared.Entry.{Entry}
 use Rattle.rq_pool.specs.declared.Frame.{Frame}
-use Rattle.rq_pool.specs.Frames.{frames_of, held_of, images_of, page_in, pages_of, places_of}
-use Rattle.rq_pool.specs.Held.{Held}
+use Rattle.rq_pool.specs.Frames.{first_frame, first_page, first_place, frames_of, images_of, pages_of, places_of}
 use Rattle.rq_pool.specs.Indexed.{closed_groups, free_cells}
 use Rattle.rq_pool.specs.Reading.{IsSuperblock, StopsFor}
-use Rattle.rq_pool.proofs.Order.{all_stand, first_is_fixed, frames_more, frames_one, none_fixed, places_more, places_one, tied_first}
+use Rattle.rq_pool.proofs.Numbering.{AreNumberedTo, numbered_all, numbered_more}
+use Rattle.rq_pool.proofs.Order.{all_stand, first_is_fixed, first_more, none_first, none_fixed, tied_first}
 use Rattle.rq_pool.proofs.Readings.{only_read_on, seen_more, read_more, earlier, stops_later}
 use Rattle.rq_pool.proofs.Indexes.{cells_stand, groups_stand, index_whole, noted_more}
 use Rattle.rq_pool.proofs.reading.read_frames.Goals as goal
@@ -21,8 +21,8 @@ loop-number-preserved g c =
     let z = c.args.layout.now in
     let n = c.loop-number.number in
     let old = images_of c.loop-number.entries.items in
-    let new = images_of c.add_frame-in-loop-number.new.entries.items in
-    let more = c.in_ok-add_frame-2.ensures in
+    let new = images_of c.add_page-in-loop-number.new.entries.items in
+    let more = c.in_ok-add_page-2.ensures in
     let grown = more.images in
     let page = c.read_sound_page.new.page in
     let read = c.in_ok-read_sound_page.ensures in
@@ -32,9 +32,8 @@ loop-number-preserved g c =
       superblock = earlier old new n page grown i.read.count 0 (omega (arith, c.loop-number.auto.number)) ∙ i.superblock;
       seen = λ h. seen_more old new n page grown i.read.count (P.seen c.args.device.now) (i.seen (read.device.honest h)) (read.ok.0 h ∙ ap (λ (s : Images). s n) i.device.same);
       unchanged = more.changed ∙ ap (λ (l : List Bool). l ++ false ∷ []) i.unchanged ∙ replicate_more n false;
-      places = more.places ∙ ap (λ (l : List (Option ℕ)). l ++ Some n ∷ []) i.places ∙ sym (places_more n);
-      frames = more.frames ∙ ap (λ (l : List Held). l ++ record { page = n; fixed = nat_eq n 0 } ∷ []) i.frames ∙ sym (frames_more n);
-      pages = more.pages ∙ ap (λ (l : List (List ℕ)). l ++ page ∷ []) i.pages ∙ sym grown;
+      first = first_more c.args.most n old page (places_of c.loop-number.entries.items) (frames_of c.loop-number.frames.items) (pages_of c.loop-number.frames.items) i.read.count i.first new _ _ _ grown more.places more.frames more.pages;
+      numbers = numbered_more z old new n page c.greatest_number.result c.loop-number.numbers.items grown i.read.count (let lt = c.loop-number-test.true in let count = c.pages-count.ensures.number in omega (arith, lt, count)) c.greatest_number.ensures i.numbers;
       free = noted_more (free_cells z) z (cells_stand z) old new c.loop-number.free c.note_page.new.free n page grown i.read.count i.free noted.free noted.free_others noted.free_same;
       closed = noted_more (closed_groups z) z (groups_stand z) old new c.loop-number.closed c.note_page.new.closed n page grown i.read.count i.closed noted.closed noted.closed_others noted.closed_same;
       faults = read.cause ∙ i.faults;
@@ -54,8 +53,8 @@ returns-in_err-read_sound_page-clause-device g c =
     only_read_on g.P.PageDevice c.args.device.now c.loop-number.device c.read_sound_page.new.device c.loop-number.invariant.device c.in_err-read_sound_page.ensures.device
 
 -- no memory for a page more
-pub returns-in_err-add_frame-2-clause-err : goal.returns-in_err-add_frame-2-clause-err
-returns-in_err-add_frame-2-clause-err g c =
+pub returns-in_err-add_page-2-clause-err : goal.returns-in_err-add_page-2-clause-err
+returns-in_err-add_page-2-clause-err g c =
     let P = g.P.PageDevice in
     let i = c.loop-number.invariant in
     let read = c.in_ok-read_sound_page.ensures in
@@ -63,8 +62,8 @@ returns-in_err-add_frame-2-clause-err g c =
     (λ h. (c.args.layout.now, subst (IsSuperblock c.args.layout.now) (c.requires.first (i.device.honest (read.device.honest h))) c.requires.superblock), read.cause ∙ i.faults) in
     search (rules, said)
 
-pub returns-in_err-add_frame-2-clause-device : goal.returns-in_err-add_frame-2-clause-device
-returns-in_err-add_frame-2-clause-device g c =
+pub returns-in_err-add_page-2-clause-device : goal.returns-in_err-add_page-2-clause-device
+returns-in_err-add_page-2-clause-device g c =
     only_read_on g.P.PageDevice c.args.device.now c.loop-number.device c.read_sound_page.new.device c.loop-number.invariant.device c.in_ok-read_sound_page.ensures.device
 
 -- all pages are read
@@ -97,36 +96,45 @@ returns-clause-closed g c =
 
 pub returns-clause-tied : goal.returns-clause-tied
 returns-clause-tied g c =
-    let i = c.loop-number.invariant in tied_first c.loop-number.number _ _ _ _ _ i.read.count i.unchanged i.places i.frames i.pages
+    let i = c.loop-number.invariant in tied_first c.args.most c.loop-number.number _ _ _ _ _ i.read.count i.unchanged i.first
 
 pub returns-clause-stand : goal.returns-clause-stand
-returns-clause-stand g c =
+returns-clause-stand g c = λ enough.
     let i = c.loop-number.invariant in
-    all_stand c.loop-number.number _ _ _ _ _ i.read.count i.unchanged i.places i.frames i.pages
+    let all : c.loop-number.number ≡ page_count c.args.layout.now = (let low = c.loop-number-test.false in let high = c.loop-number.auto.number-end in let n = c.pages-count.ensures.number in omega (arith, low, high, n)) in
+    all_stand c.args.most c.loop-number.number _ _ _ _ _ i.read.count i.unchanged i.first (omega (arith, all, enough))
 
 pub returns-clause-first : goal.returns-clause-first
 returns-clause-first g c =
     let i = c.loop-number.invariant in
-    first_is_fixed c.loop-number.number _ _ _ _ _ i.read.count i.unchanged i.places i.frames i.pages (omega (arith, c.loop-number.auto.number))
+    first_is_fixed c.args.most c.loop-number.number _ _ _ _ _ i.read.count i.unchanged i.first (omega (arith, c.loop-number.auto.number)) c.requires.some
 
 pub returns-clause-loose : goal.returns-clause-loose
 returns-clause-loose g c =
     let i = c.loop-number.invariant in
-    none_fixed c.loop-number.number _ _ _ _ _ i.read.count i.unchanged i.places i.frames i.pages
+    none_fixed c.args.most c.loop-number.number _ _ _ _ _ i.read.count i.unchanged i.first
+
+pub returns-clause-numbers : goal.returns-clause-numbers
+returns-clause-numbers g c =
+    let z = c.args.layout.now in
+    let all : c.loop-number.number ≡ page_count z = (let low = c.loop-number-test.false in let high = c.loop-number.auto.number-end in let n = c.pages-count.ensures.number in omega (arith, low, high, n)) in
+    numbered_all z _ _ (subst (λ (n : ℕ). AreNumberedTo z (images_of c.loop-number.entries.items) n c.loop-number.numbers.items) all c.loop-number.invariant.numbers)
 
 pub loop-number-init : goal.loop-number-init
 loop-number-init g c =
-    let a = c.in_ok-add_frame.ensures in
-    let images : images_of c.add_frame.new.entries.items ≡ c.args.superblock ∷ [] = a.images ∙ ap (λ (l : List Entry). images_of l ++ c.args.superblock ∷ []) c.in-Ok.ensures.items in
-    let pages : pages_of c.add_frame.new.frames.items ≡ c.args.superblock ∷ [] = a.pages ∙ ap (λ (l : List Frame). pages_of l ++ c.args.superblock ∷ []) c.in-Ok-with_capacity.ensures.items in
+    let a = c.in_ok-add_page.ensures in
+    let first = first_more c.args.most 0 [] c.args.superblock [] [] [] refl (none_first c.args.most) (images_of c.add_page.new.entries.items) (places_of c.add_page.new.entries.items) (frames_of c.add_page.new.frames.items) (pages_of c.add_page.new.frames.items)
+    (a.images ∙ ap (λ (l : List Entry). images_of l ++ c.args.superblock ∷ []) c.in-Ok.ensures.items)
+    (a.places ∙ ap (λ (l : List Entry). places_of l ++ first_place c.args.most 0 ∷ []) c.in-Ok.ensures.items)
+    (a.frames ∙ ap (λ (l : List Frame). frames_of l ++ first_frame c.args.most 0) c.in-Ok-with_capacity.ensures.items)
+    (a.pages ∙ ap (λ (l : List Frame). pages_of l ++ first_page c.args.most 0 c.args.superblock) c.in-Ok-with_capacity.ensures.items) in
     record {
       read = search rules;
       superblock = search rules;
       seen = search rules;
       unchanged = search rules;
-      places = a.places ∙ ap (λ (l : List Entry). places_of l ++ Some 0 ∷ []) c.in-Ok.ensures.items ∙ sym places_one;
-      frames = a.frames ∙ ap (λ (l : List Frame). frames_of l ++ record { page = 0; fixed = true } ∷ []) c.in-Ok-with_capacity.ensures.items ∙ sym frames_one;
-      pages = pages ∙ sym images;
+      first = first;
+      numbers = record { each = search rules; same = λ p low lt. absurd (omega (arith, low, lt)) };
       free = search rules;
       closed = search rules;
       faults = refl;
@@ -135,10 +143,5 @@ loop-number-init g c =
 
 pub returns-clause-every : goal.returns-clause-every
 returns-clause-every g c =
-    let i = c.loop-number.invariant in
     let all : c.loop-number.number ≡ page_count c.args.layout.now = (let low = c.loop-number-test.false in let high = c.loop-number.auto.number-end in let n = c.pages-count.ensures.number in omega (arith, low, high, n)) in
-    let held = length-map c.loop-number.frames.items held_of in
-    let pages = length-map c.loop-number.frames.items page_in in
-    let same = ap length i.pages in
-    let count = i.read.count in
-    omega (arith, all, held, pages, same, count)
+    c.loop-number.invariant.first.frames_are ∙ ap (λ (n : ℕ). min n c.args.most) all

@@ -3,7 +3,8 @@ use Rattle.rq_pool.specs.Frames.{changed_of, frames_of, images_of, pages_of, pla
 use Rattle.rq_pool.specs.Indexed.{closed_groups, free_cells}
 use Rattle.rq_pool.specs.Pooled.{image_at}
 use Rattle.rq_pool.specs.Reading.{OnlyRead, AreSeen}
-use Rattle.rq_pool.proofs.Order.{first_frames, first_places}
+use Rattle.rq_pool.proofs.Numbering.{AreNumberedTo}
+use Rattle.rq_pool.proofs.Order.{AreFirst}
 use Rattle.rq_pool.proofs.Readings.{AreRead}
 use Rattle.rq_pool.proofs.Indexes.{AreNotedTo}
 use Rattle.rq_pool.proofs.reading.read_frames.Given as goal
@@ -16,9 +17,8 @@ invariant-loop-number g l =
       superblock : image_at (images_of l.entries.items) 0 ≡ l.fn.superblock;
       seen : P.honest l.device → AreSeen (P.seen l.fn.device) (images_of l.entries.items) l.number;
       unchanged : changed_of l.entries.items ≡ replicate l.number false;
-      places : places_of l.entries.items ≡ first_places l.number;
-      frames : frames_of l.frames.items ≡ first_frames l.number;
-      pages : pages_of l.frames.items ≡ images_of l.entries.items;
+      first : AreFirst l.fn.most l.number (images_of l.entries.items) (places_of l.entries.items) (frames_of l.frames.items) (pages_of l.frames.items);
+      numbers : AreNumberedTo l.layout (images_of l.entries.items) l.number l.numbers.items;
       free : AreNotedTo (free_cells l.layout) l.layout (images_of l.entries.items) l.free l.number;
       closed : AreNotedTo (closed_groups l.layout) l.layout (images_of l.entries.items) l.closed l.number;
       faults : P.faults l.device ≡ P.faults l.fn.device;

@@ -1,17 +1,20 @@
-use Rattle.std.proofs.Common.{◌≡◌, ◌∷◌, ◌+◌, length, rules, ap, refl, subst, sym, arith}
+use Rattle.std.proofs.Common.{◌≡◌, ◌∷◌, [], ◌+◌, length, rules, ap, refl, subst, sym, arith}
+use Rattle.std.specs.Prelude.{IfErr}
 use Rattle.rq_analysis.specs.Rules.{FollowAll}
 use Rattle.rq_log.specs.Spelled.{AreAllSpelled, AreSpelled}
-use Rattle.rq_log.specs.Reading.{IsRead}
 use Rattle.rq_model.proofs.Bases.{standing_plain}
 use Rattle.rq_store.specs.Fitting.{image_in, told_by}
 use Rattle.rq_store.specs.Opening.{MayRedo, Redoes}
 use Rattle.rq_restart.specs.Found.{IsAnalysisOf, MayComeNext}
 use Rattle.rq_restart.specs.Repeating.{ArePagesCounted, paged}
+use Rattle.rq_restart.specs.Undoing.{NamesNoDevice}
 use Rattle.rq_restart.proofs.Following.{next_of_found}
 use Rattle.rq_restart.proofs.Going.{found_next}
+use Rattle.rq_restart.proofs.GoingOn.{goes_in_memory, goes_nowhere}
+use Rattle.rq_restart.proofs.Marking.{same_marked}
 use Rattle.rq_restart.proofs.ReadAgain.{few_spelled}
 use Rattle.rq_restart.proofs.Repeated.{written_more}
-use Rattle.rq_restart.proofs.Undos.{one_repeated, still}
+use Rattle.rq_restart.proofs.Undos.{one_repeated}
 use Rattle.rq_restart.proofs.appending.append.Goals as goal
 
 pub append-requires-clause-record : goal.append-requires-clause-record
@@ -52,22 +55,15 @@ returns-clause-counted g c = λ before.
     let redone : Redoes (told_by r) (length log + 1) (image_in c.args.pages.now.images) (image_in c.make.new.pages.images) = subst (λ n. Redoes (told_by r) n (image_in c.args.pages.now.images) (image_in c.make.new.pages.images)) place (c.if-not-make.ensures.redone refl) in
     subst (λ n. ArePagesCounted z n (paged c.make.new.pages)) longer (written_more z (length log) r (paged c.args.pages.now) (paged c.make.new.pages) redone may.write before)
 
-pub returns-clause-stays : goal.returns-clause-stays
-returns-clause-stays g c =
-    let l = g.L.LogDevice in
-    let device : c.append.new.self.device ≡ c.args.log.now.device = search rules in
-    let forced : c.append.new.self.forced ≡ c.args.log.now.forced = search rules in
-    let settled : c.append.new.self.settled ≡ c.args.log.now.settled = search rules in
-    record {
-      sizes = c.make.ensures.sizes;
-      pages_device = c.make.ensures.device;
-      frames = c.make.ensures.frames;
-      marked = c.make.ensures.marked;
-      read = subst (IsRead l c.args.log.now.device) (sym device) (still l g.met.L.LogDevice.only_now c.args.log.now.device);
-      forced = forced;
-      running = c.append.ensures.failed;
-      settled = settled;
-    }
+pub returns-clause-goes_on : goal.returns-clause-goes_on
+returns-clause-goes_on g c =
+    let old = c.args.pages.now in
+    let new = c.make.new.pages in
+    let log = c.args.log.now in
+    let made = c.make.ensures in
+    let device : c.append.new.self.device ≡ log.device = search rules in
+    let grown : c.append.new.self.records ≡ c.args.undo.now ∷ log.records = search rules in
+    goes_in_memory g.P.PageDevice g.L.LogDevice g.met.L.LogDevice.only_now old new log.device c.append.new.self.device log.records (c.args.undo.now ∷ []) c.append.new.self.records _ tt made.sizes made.device made.frames device made.marked grown
 
 pub returns-clause-found : goal.returns-clause-found
 returns-clause-found g c =
@@ -81,3 +77,23 @@ returns-clause-found g c =
     let grown : c.append.new.self.records ≡ r ∷ log = search rules in
     let next = next_of_found f log r are c.requires.plain (c.may_take.ensures.order c.if-not-may_take.false) in
     subst (IsAnalysisOf c.note.new.self) (sym grown) (found_next f c.note.new.self log r (c.last-lsn.result + 1) (ap (λ n. n + 1) c.last-lsn.ensures) c.requires.plain few are next c.in_ok-note.ensures.noted)
+
+pub returns-then-last-ge-LOG_LIMIT-clause-goes_on : goal.returns-then-last-ge-LOG_LIMIT-clause-goes_on
+returns-then-last-ge-LOG_LIMIT-clause-goes_on g c = goes_nowhere g.P.PageDevice g.L.LogDevice g.met.L.LogDevice.only_now c.args.pages.now c.args.log.now.device c.args.log.now.records _ tt
+
+pub returns-in_err-note-clause-goes_on : goal.returns-in_err-note-clause-goes_on
+returns-in_err-note-clause-goes_on g c =
+    let old = c.args.pages.now in
+    let log = c.args.log.now in
+    let device : c.reserve.new.self.device ≡ log.device = search rules in
+    let records : c.reserve.new.self.records ≡ log.records = search rules in
+    let none : IfErr c.from_residual-in_err-note.result NamesNoDevice = search rules in
+    goes_in_memory g.P.PageDevice g.L.LogDevice g.met.L.LogDevice.only_now old old log.device c.reserve.new.self.device log.records [] c.reserve.new.self.records _ none refl refl refl device (same_marked old old refl) records
+
+pub returns-then-not-make-clause-goes_on : goal.returns-then-not-make-clause-goes_on
+returns-then-not-make-clause-goes_on g c =
+    let log = c.args.log.now in
+    let made = c.make.ensures in
+    let device : c.reserve.new.self.device ≡ log.device = search rules in
+    let records : c.reserve.new.self.records ≡ log.records = search rules in
+    goes_in_memory g.P.PageDevice g.L.LogDevice g.met.L.LogDevice.only_now c.args.pages.now c.make.new.pages log.device c.reserve.new.self.device log.records [] c.reserve.new.self.records _ tt made.sizes made.device made.frames device made.marked records

@@ -15,6 +15,10 @@ pub returns-in-Ok-clause-found : goal.returns-in-Ok-clause-found
 returns-in-Ok-clause-found g c = λ older place are few.
     found_next c.args.analysis.now c.note.new.self older c.args.record.now c.args.lsn place c.requires.plain few are (next_of_found c.args.analysis.now older c.args.record.now are c.requires.plain (c.may_take.ensures.order c.if-not-may_take.false)) c.in-Ok.ensures.noted
 
+pub returns-in-Ok-clause-follows : goal.returns-in-Ok-clause-follows
+returns-in-Ok-clause-follows g c = λ older place are follow back.
+    ((c.may_take.ensures.next older are follow c.requires.plain c.can_be_read-reads.ensures back).0 c.if-not-may_take.false).follows
+
 pub returns-in-Ok-clause-repeated : goal.returns-in-Ok-clause-repeated
 returns-in-Ok-clause-repeated g c = λ older place are follow back.
     one_repeated c.args.pages.now.sizes c.args.pages.now.sizes older c.args.record.now refl c.args.lsn place (paged c.args.pages.now) (paged c.apply.new.pages) ((c.may_take.ensures.next older are follow c.requires.plain c.can_be_read-reads.ensures back).0 c.if-not-may_take.false) (c.may_redo.ensures.0 c.if-not-may_redo.false) c.apply.ensures.redone

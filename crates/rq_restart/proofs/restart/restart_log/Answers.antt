@@ -1,90 +1,79 @@
-use Rattle.std.proofs.Common.{sym, ◌∙◌, subst, inl, inr}
+use Rattle.std.proofs.Common.{◌<◌, ℕ, Ok, sym, subst}
 use Rattle.rq_page.specs.Sizes.{Sizes}
-use Rattle.rq_log.specs.Reading.{IsRead}
-use Rattle.rq_log.proofs.Keeping.{read_twice}
-use Rattle.rq_restart.specs.Undoing.{FailsWith}
-use Rattle.rq_store.specs.Fitting.{image_in}
-use Rattle.rq_restart.specs.Refused.{WhyShut}
+use Rattle.rq_restart.specs.Numbers.{AreNumbersOf}
 use Rattle.rq_restart.specs.Repeating.{paged}
-use Rattle.rq_restart.specs.Restarting.{BeginsAtMost}
-use Rattle.rq_restart.specs.RolledBack.{HasRepeated}
-use Rattle.rq_restart.proofs.Moments.{begins_at_most, only_read}
-use Rattle.rq_restart.proofs.Restarts.{shut_by}
-use Rattle.rq_restart.proofs.Framing.{stay_framed}
-use Rattle.rq_restart.proofs.Marking.{marked_twice}
+use Rattle.rq_restart.proofs.Continuing.{all_continues, begins_so, none_fail_behind, refuses_reading, refuses_so, repeats_so, tells_behind}
 use Rattle.rq_restart.proofs.restart.restart_log.Goals as goal
+
+pub finish_restart-requires-clause-held : goal.finish_restart-requires-clause-held
+finish_restart-requires-clause-held g c = c.in-Ok.ensures.went.held c.requires.held
+
+pub finish_restart-requires-clause-more : goal.finish_restart-requires-clause-more
+finish_restart-requires-clause-more g c = subst (λ (n : ℕ). 1 < n) (sym c.in-Ok.ensures.went.count) c.requires.more
+
+pub finish_restart-requires-clause-numbers : goal.finish_restart-requires-clause-numbers
+finish_restart-requires-clause-numbers g c = (paged c.args.pages, subst (λ (y : Sizes). AreNumbersOf y (paged c.args.pages) c.args.numbers.now.numbers.items) (sym c.in-Ok.ensures.went.sizes) c.requires.numbers)
 
 pub returns-in-Ok-finish_restart-clause-opened : goal.returns-in-Ok-finish_restart-clause-opened
 returns-in-Ok-finish_restart-clause-opened g c =
+    let P = g.P.PageDevice in
+    let L = g.L.LogDevice in
+    let first = c.args.pages in
     let mid = c.read_and_redo.new.pages in
-    let first = paged c.args.pages in
-    let sizes = c.read_and_redo.ensures.sizes in
+    let last = c.finish_restart.new.pages in
+    let was = c.args.log in
     let log = c.in-Ok.log in
+    let new = c.finish_restart.new.log in
     let read = c.in-Ok.ensures in
-    let went = c.in-Ok-finish_restart.ensures in
-    let left = c.finish_restart.ensures.left in
+    let made = c.in-Ok-finish_restart.ensures in
+    let r = Ok c.in-Ok.analysis in
     record {
-      sizes = c.finish_restart.ensures.sizes ∙ sizes;
-      device = c.finish_restart.ensures.pages ∙ c.read_and_redo.ensures.device;
-      frames = c.finish_restart.ensures.frames ∙ c.read_and_redo.ensures.frames;
-      marked = marked_twice c.args.pages mid c.finish_restart.new.pages c.read_and_redo.ensures.marked c.finish_restart.ensures.marked;
-      pool = went.pool;
+      continues = all_continues P L first mid last was log new r read.went read.went.counted read.repeated read.read made.continues;
+      none_failed = none_fail_behind P L first.device mid.device last.device was log.device new.device read.went.counted made.counted;
+      pool = made.pool;
       cells_used = c.used_cells-cells.ensures;
       read = log;
       was_read = read.read;
-      honest = left.honest;
-      restarted = went.restarted;
-      repeated = λ k. subst (λ (y : Sizes). HasRepeated y log.records c.finish_restart.new.log.records first (paged c.finish_restart.new.pages)) sizes (went.checked k first (read.repeated (left.honest k)) read.numbers);
-      any_moment = begins_at_most g.L.LogDevice c.args.pages.sizes mid.sizes first (paged mid) c.args.log log c.finish_restart.new.log sizes read.read read.repeated left;
+      honest = made.continues.log_honest;
+      restarted = made.restarted;
+      repeated = repeats_so P L first mid last was log new r read.went read.went.counted read.repeated read.read made.continues c.args.numbers.now.numbers.items c.requires.numbers made.checked;
+      begun = made.begun;
+      any_moment = begins_so P L first mid last was log new r read.went read.went.counted read.repeated read.read made.continues made.left;
+      telling = tells_behind P L first mid last was log new r read.went read.went.counted read.repeated read.read made.continues (Unit {0}) made.telling;
     }
+
+pub returns-in-Ok-finish_restart-clause-way : goal.returns-in-Ok-finish_restart-clause-way
+returns-in-Ok-finish_restart-clause-way g c =
+    let made = c.finish_restart.ensures in
+    λ h f so. (let there = c.in-Ok.ensures.way (made.continues.pages_honest h.0, made.continues.log_honest h.1) f so in made.way h f there.0 there.1)
 
 pub returns-in-Ok-clause-refused : goal.returns-in-Ok-clause-refused
 returns-in-Ok-clause-refused g c =
-    let l = g.L.LogDevice in
+    let P = g.P.PageDevice in
+    let L = g.L.LogDevice in
+    let first = c.args.pages in
     let mid = c.read_and_redo.new.pages in
-    let first = paged c.args.pages in
-    let sizes = c.read_and_redo.ensures.sizes in
+    let last = c.finish_restart.new.pages in
+    let was = c.args.log in
     let log = c.in-Ok.log in
+    let new = c.finish_restart.new.log in
     let read = c.in-Ok.ensures in
-    let left = c.finish_restart.ensures.left in
-    let back = c.give_back-in-Err-finish_restart.ensures in
-    let z = c.args.pages.sizes in
-    let e = c.in-Err-finish_restart.refusal in
-    let was = log.device in
-    let last = c.finish_restart.new.log.device in
-    let fails = c.in-Err-finish_restart.ensures.fails in
-    let shut : l.honest last → WhyShut z log.records first e (l.faults was) (l.faults last) (IsRead l was last) = λ k. subst (λ (y : Sizes). WhyShut y log.records first e (l.faults was) (l.faults last) (IsRead l was last)) sizes (c.in-Err-finish_restart.ensures.shut k first (read.repeated (left.honest k)) read.numbers) in
-    record {
-      same = c.give_back.ensures ∙ c.finish_restart.ensures.pages ∙ c.read_and_redo.ensures.device;
-      stops = record {
-        counted = subst (λ d. FailsWith e (l.faults c.args.log) (l.faults d)) (sym back) (subst (λ n. FailsWith e n (l.faults last)) read.read.counted fails);
-        read = λ other. subst (IsRead l c.args.log) (sym back) (read_twice l c.args.log was last read.read.only (c.in-Err-finish_restart.ensures.read other));
-        over = λ k. inr (
-          log.records,
-          read.read.are_spelled,
-          (λ h. read.read.reads (left.honest (subst l.honest back h))),
-          subst (λ d. WhyShut z log.records first e (l.faults c.args.log) (l.faults d) (IsRead l c.args.log d)) (sym back)
-              (subst (λ n. WhyShut z log.records first e n (l.faults last) (IsRead l c.args.log last)) read.read.counted
-              (shut_by z log.records first e (l.faults was) (l.faults last) (λ only. read_twice l c.args.log was last read.read.only only) (shut (subst l.honest back k)))),
-        );
-      };
-      any_moment = subst (BeginsAtMost l z (image_in c.args.pages.images) c.args.log) (sym back)
-          (begins_at_most l z mid.sizes first (paged mid) c.args.log log c.finish_restart.new.log sizes read.read read.repeated left);
-    }
+    let made = c.in-Err-finish_restart.ensures in
+    rw c.give_back.ensures (rw c.give_back-in-Err-finish_restart.ensures
+    (refuses_so P L first mid last was log new (Ok c.in-Ok.analysis) read.went read.went.counted read.repeated read.read made.continues c.in-Err-finish_restart.refusal c.args.numbers.now.numbers.items c.requires.numbers made.left made.fails made.read made.telling made.shut))
+
+pub returns-in-Ok-clause-way_back : goal.returns-in-Ok-clause-way_back
+returns-in-Ok-clause-way_back g c =
+    let made = c.finish_restart.ensures in
+    rw c.give_back.ensures (rw c.give_back-in-Err-finish_restart.ensures
+    (λ h f so. (let there = c.in-Ok.ensures.way (made.continues.pages_honest h.0, made.continues.log_honest h.1) f so in made.way h f there.0 there.1)))
 
 pub returns-clause-refused : goal.returns-clause-refused
-returns-clause-refused g c = record {
-  same = c.give_back-in-Err.ensures ∙ c.read_and_redo.ensures.device;
-  stops = record {
-    counted = c.in-Err.ensures.fails.0;
-    read = λ other. c.in-Err.ensures.fails.1;
-    over = λ h. inl (c.in-Err.ensures.stopped h);
-  };
-  any_moment = only_read g.L.LogDevice c.args.pages.sizes (image_in c.args.pages.images) c.args.log c.in-Err.stopped.device c.in-Err.ensures.fails.1.moments;
-}
+returns-clause-refused g c =
+    let s = c.in-Err.stopped in
+    let stops = c.in-Err.ensures.stops in
+    rw c.give_back-in-Err.ensures
+    (refuses_reading g.P.PageDevice g.L.LogDevice c.args.pages c.read_and_redo.new.pages c.args.log s.device s.refusal stops.0 stops.1 stops.2 c.in-Err.ensures.only c.in-Err.ensures.stopped)
 
-pub finish_restart-requires-clause-pages : goal.finish_restart-requires-clause-pages
-finish_restart-requires-clause-pages g c = (paged c.args.pages, c.in-Ok.ensures.repeated, c.in-Ok.ensures.numbers, c.in-Ok.ensures.counted)
-
-pub finish_restart-requires-clause-framed : goal.finish_restart-requires-clause-framed
-finish_restart-requires-clause-framed g c = stay_framed c.args.pages c.read_and_redo.new.pages c.requires.framed c.read_and_redo.ensures.sizes c.read_and_redo.ensures.frames
+pub returns-clause-way_back : goal.returns-clause-way_back
+returns-clause-way_back g c = rw c.give_back-in-Err.ensures c.in-Err.ensures.way_back

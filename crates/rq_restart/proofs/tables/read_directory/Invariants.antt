@@ -1,5 +1,6 @@
-use Rattle.std.proofs.Common.{◌≡◌}
+use Rattle.std.proofs.Common.{◌≡◌, ◌≤◌, ℕ}
 use Rattle.rq_pool.specs.Fetching.{MayHaveRead}
+use Rattle.rq_groups.specs.Sent.{sent_count}
 use Rattle.rq_restart.specs.Tables.{AreSentTo, AreWaitingTo}
 use Rattle.rq_restart.proofs.Tabled.{IsNextAtHand}
 use Rattle.rq_restart.proofs.tables.read_directory.Given as goal
@@ -12,4 +13,5 @@ invariant-loop-sender g l = record {
   hand : IsNextAtHand l.fn.pages.sizes l.pages l.sender;
   waiting : AreWaitingTo l.fn.pages.sizes l.pages.images l.sender l.waiting;
   sent : AreSentTo l.fn.pages.sizes l.pages.images l.sender l.sent;
+  few : (place : ℕ) → sent_count l.sent place ≤ l.fn.records;
 }

@@ -1,23 +1,11 @@
-use Rattle.std.proofs.Common.{◌≡◌, ◌+◌, ap, ◌∙◌, subst, arith}
+use Rattle.std.proofs.Common.{◌≡◌, ◌+◌, ap, ◌∙◌, sym, subst, arith}
 use Rattle.rq_page.specs.Sizes.{client_count, sender_count}
-use Rattle.rq_restart.specs.Tables.{AreSentTo, AreWaitingTo}
-use Rattle.rq_restart.proofs.Counting.{all_sent, all_waiting}
+use Rattle.rq_planner.proofs.Readings.{knows_read}
 use Rattle.rq_store.specs.Sends.{place_count}
+use Rattle.rq_restart.specs.Tables.{AreSentTo, AreWaitingTo}
+use Rattle.rq_restart.proofs.Counting.{are_told}
+use Rattle.rq_restart.proofs.Tabled.{tabled_reads, tabled_stops}
 use Rattle.rq_restart.proofs.tables.read_slots.Goals as goal
-
-pub returns-clause-waiting : goal.returns-clause-waiting
-returns-clause-waiting g c =
-    let z = c.args.pages.now.sizes in
-    let senders : c.senders-senders.result ≡ sender_count z = c.senders-senders.ensures.number ∙ ap sender_count c.layout.ensures.sizes in
-    all_waiting z c.args.pages.now.images _ (subst (λ n. AreWaitingTo z c.args.pages.now.images n c.read_tables.new.waiting) senders c.in_ok-read_tables.ensures.waiting)
-
-pub returns-clause-sent : goal.returns-clause-sent
-returns-clause-sent g c =
-    let z = c.args.pages.now.sizes in
-    let senders : c.senders-senders.result ≡ sender_count z = c.senders-senders.ensures.number ∙ ap sender_count c.layout.ensures.sizes in
-    let clients : c.clients-clients.result ≡ client_count z = c.clients-clients.ensures.number ∙ ap client_count c.layout-2.ensures.sizes in
-    let all : c.senders-senders.result + c.clients-clients.result ≡ place_count z = omega (arith, senders, clients) in
-    all_sent z c.args.pages.now.images _ (subst (λ n. AreSentTo z c.args.pages.now.images n c.read_tables.new.sent) all c.in_ok-read_tables.ensures.sent)
 
 pub read_tables-requires-clause-waiting : goal.read_tables-requires-clause-waiting
 read_tables-requires-clause-waiting g c = record {
@@ -38,3 +26,27 @@ read_tables-requires-clause-sent g c =
       numbers = record { told_so = λ i lt. absurd (omega (arith, lt)); rest = λ i le. (made.none i).0 };
       last = record { told_so = λ i lt. absurd (omega (arith, lt)); rest = λ i le. (made.none i).1 };
     }
+
+pub returns-in-Ok-clause-told : goal.returns-in-Ok-clause-told
+returns-in-Ok-clause-told g c =
+    let made = c.in-Ok.ensures in
+    let z = c.args.pages.now.sizes in
+    let y = c.read_tables.new.pages.sizes in
+    let images = c.read_tables.new.pages.images in
+    let same : y ≡ z = (c.read_tables.ensures.read.read.kept 0).sizes in
+    let senders : c.senders-senders.result ≡ sender_count y = c.senders-senders.ensures.number ∙ ap sender_count (c.layout.ensures.sizes ∙ sym same) in
+    let clients : c.clients-clients.result ≡ client_count y = c.clients-clients.ensures.number ∙ ap client_count (c.layout-2.ensures.sizes ∙ sym same) in
+    let all : c.senders-senders.result + c.clients-clients.result ≡ place_count y = omega (arith, senders, clients) in
+    are_told y images c.args.records c.read_tables.new.waiting c.read_tables.new.sent (subst (λ n. AreWaitingTo y images n c.read_tables.new.waiting) senders made.waiting) (subst (λ n. AreSentTo y images n c.read_tables.new.sent) all made.sent) made.few
+
+pub returns-in-Ok-clause-known : goal.returns-in-Ok-clause-known
+returns-in-Ok-clause-known g c = knows_read g.P.PageDevice c.args.pages.now c.read_tables.new.pages c.args.planner c.read_tables.ensures.read.read c.requires.known
+
+pub returns-in-Err-clause-read : goal.returns-in-Err-clause-read
+returns-in-Err-clause-read g c = record { read = c.in-Err.ensures.read.read; counted = tt; refused = c.in-Err.ensures.read.refused }
+
+pub returns-in-Err-clause-stops : goal.returns-in-Err-clause-stops
+returns-in-Err-clause-stops g c = tabled_stops g.P.PageDevice c.args.records c.in-Err.refusal c.args.pages.now c.read_tables.new.pages c.in-Err.ensures.causes
+
+pub returns-in-Err-clause-names : goal.returns-in-Err-clause-names
+returns-in-Err-clause-names g c = tabled_reads g.P.PageDevice c.args.records c.in-Err.refusal c.args.pages.now c.read_tables.new.pages c.in-Err.ensures.causes

@@ -8,6 +8,7 @@ use Rattle.rq_store.specs.State.{State}
 use Rattle.rq_planner.specs.Answered.{IsAnsweredBack, IsPlanned, level_back}
 use Rattle.rq_planner.specs.Asked.{known_from}
 use Rattle.rq_planner.specs.Asked.Asked.{Undo}
+use Rattle.rq_planner.specs.Backs.{CanBeTakenBack}
 use Rattle.rq_planner.specs.Lawful.{IsLawfulInverse}
 use Rattle.rq_planner.proofs.Asking.{asks_back, has_place}
 use Rattle.rq_planner.proofs.Knowing.{is_one}
@@ -18,6 +19,7 @@ use Rattle.rq_engine.proofs.Keeping.{kept_read}
 use Rattle.rq_engine.proofs.KeptUp.{plan_counts, plan_reads}
 use Rattle.rq_engine.proofs.Leveled.{few_back}
 use Rattle.rq_engine.proofs.Opened.{state_is}
+use Rattle.rq_sound.specs.Groups.{slots_now}
 use Rattle.rq_sound.specs.Plans.{AreUnlatched}
 use Rattle.rq_engine.proofs.engine.Engine.plan_inverse.Goals as goal
 
@@ -60,6 +62,11 @@ pub returns-clause-planned : goal.returns-clause-planned
 returns-clause-planned g c given d told =
     subst (λ (s : State). IsDeedOf s.sizes d → IsPlanned (known_part s) (Undo d) (with_plan c.plan_inverse.new.plan c.plan_inverse.result)) (state_is c.self.view_is)
     (subst (λ (rows : List Row). IsDeedOf c.self.inside.pages.sizes d → IsPlanned (known_from c.self.inside.pages rows) (Undo d) (with_plan c.plan_inverse.new.plan c.plan_inverse.result)) c.spare.ensures (λ own. c.plan_inverse.ensures.planned (inr given.0, given.1) (Undo d) (asks_back c.args.told.now d told) (has_place c.self.inside.pages.sizes d own)))
+
+pub returns-clause-can : goal.returns-clause-can
+returns-clause-can g c given d told =
+    subst (λ (s : State). IfOk (with_plan c.plan_inverse.new.plan c.plan_inverse.result) (λ p. CanBeTakenBack s.sizes (slots_now s) d)) (state_is c.self.view_is)
+    (IfOk-weaker (with_plan c.plan_inverse.new.plan c.plan_inverse.result) _ _ (λ p can. can) (c.plan_inverse.ensures.judged (inr given.0, given.1) d told).can)
 
 pub returns-clause-read : goal.returns-clause-read
 returns-clause-read g c = plan_reads g.P.PageDevice _ c.args.self.now _ c.self.view_is (rw (c.spare.ensures) refl) refl refl c.plan_inverse.ensures.read.read

@@ -72,7 +72,7 @@ returns-in-Ok-clause-started g c honest =
     start_answered s (Undo f.deed) (HasTurnedBack s c.args.txn c.args.number f c.launch.new.self.state) (g.P.PageDevice.honest c.launch.new.self.pages) honest c.launch.result is.free
     (λ begun. record {
       writes = c.plan_inverse.new.plan.writes.items;
-      planned = record { planned = p.follows.0; slots = c.in-Ok.ensures.lawful.slots; free = p.follows.1; lowest = p.lowest };
+      planned = record { can = c.in-Ok.ensures.can (truly, read_on _) f.deed (ap deed_back c.op_end_of.ensures ∙ c.requires.kept.reads); planned = p.follows.0; slots = c.in-Ok.ensures.lawful.slots; free = p.follows.1; lowest = p.lowest };
       state = but_same _ _ begun (c.launch.ensures.devices.0.images honest) ∙ ap (λ (x : State). turned_back x c.args.txn c.args.number f c.plan_inverse.new.plan.writes.items) (read_state g.P.PageDevice _ _ c.in-Ok.ensures.read truly);
     })
     c.launch.ensures.launched c.launch.ensures.causes
@@ -119,7 +119,7 @@ returns-in-Ok-clause-frames g c =
     (λ honest.
     let is = c.in-Ok.ensures.planned (c.launch.ensures.devices.0.honest honest, read_on _) f.deed (ap deed_back c.op_end_of.ensures ∙ c.requires.kept.reads) c.requires.kept.sender in
     let p : IsPlanBack (known_part s) f.deed c.plan_inverse.new.plan = is.plan in
-    record { planned = p.follows.0; slots = c.in-Ok.ensures.lawful.slots; free = p.follows.1; lowest = p.lowest })
+    record { can = c.in-Ok.ensures.can (c.launch.ensures.devices.0.honest honest, read_on _) f.deed (ap deed_back c.op_end_of.ensures ∙ c.requires.kept.reads); planned = p.follows.0; slots = c.in-Ok.ensures.lawful.slots; free = p.follows.1; lowest = p.lowest })
     refl c.launch.result c.launch.ensures.launched c.launch.ensures.frames
 
 pub returns-in-Err-clause-frames : goal.returns-in-Err-clause-frames

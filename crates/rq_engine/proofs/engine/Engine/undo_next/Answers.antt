@@ -75,7 +75,7 @@ returns-in-Ok-clause-lists g c honest =
         done = f;
         number = refl;
         ready = subst (λ (o : Option Finished). IsTurnedBack s c.args.txn c.in_ok-number.number o) (is_newest_of c.args.self.now.state _ c.args.txn _ _ (state_is c.self.view_is) c.next_undo.ensures c.in-Some.is) c.in_ok-number.ensures.ready;
-        plan = record { planned = record { made = refl; aim = refl; plan = b.planned.planned }; lowest = b.planned.lowest };
+        plan = record { can = b.planned.can; planned = record { made = refl; aim = refl; plan = b.planned.planned }; lowest = b.planned.lowest };
         lists = b.state;
       },
     )
