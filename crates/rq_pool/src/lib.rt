@@ -30,7 +30,7 @@ use crate::frame_count::FrameCount;
 use crate::frames::{redo_frame, write_slot};
 use crate::notes::{note_cell, note_group};
 use crate::reading::{read_frames, read_superblock};
-use crate::table::{Place, lsn_of_page, mark, set_image, was_changed};
+use crate::table::{HalvedLsn, Standing, lsn_of_page, mark, set_image, was_changed};
 use crate::writing::write;
 use rq_bitset::Index;
 use rq_disk::{PAGE, PageDevice};
@@ -52,11 +52,9 @@ pub struct Entry {
     /// Its image, as contracts alone see it.
     pub image: Snapshot<Page>,
     /// The LSN of its image.
-    pub lsn: Lsn,
-    /// Whether it was changed since it was read or written.
-    pub changed: bool,
-    /// The frame in which it stands.
-    pub place: Place,
+    pub lsn: HalvedLsn,
+    /// The frame in which it stands, and whether it was changed since it was read or written.
+    pub standing: Standing,
     ghost stamp: { lsn ≡ lsn_of image.value },
 }
 

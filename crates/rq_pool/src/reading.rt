@@ -16,7 +16,7 @@ ghost use Rattle.rq_pool.specs.Reading.{OnlyRead, IsSuperblock, IsSoundPage, Are
 
 use crate::greatest::greatest_number;
 use crate::notes::{are_noted, note_page};
-use crate::table::Place;
+use crate::table::{HalvedLsn, Standing};
 use crate::{Entry, Frame};
 use rq_bitset::Index;
 use rq_bytes::equal::are_equal;
@@ -158,7 +158,7 @@ fn add_page(
     page: &Page,
     most: u32,
 ) -> Result<(), Refusal>
-    requires { number < 4294967295 }
+    requires { number < 2147483647 }
     ensures images { OnOk result (images_of entries.new.items ≡ images_of entries.old.items ++ page.now ∷ []) }
     ensures changed { OnOk result (changed_of entries.new.items ≡ changed_of entries.old.items ++ false ∷ []) }
     ensures places { OnOk result (places_of entries.new.items ≡ places_of entries.old.items ++ first_place most number ∷ []) }
@@ -169,9 +169,8 @@ fn add_page(
     if number >= most {
         let entry = Entry {
             image: Snapshot::of(page),
-            lsn: page.lsn(),
-            changed: false,
-            place: Place::new(None),
+            lsn: HalvedLsn::new(page.lsn()),
+            standing: Standing::new(None, false),
         };
         return match entries.push(entry) {
             Ok(()) => Ok(()),
@@ -180,9 +179,8 @@ fn add_page(
     }
     let entry = Entry {
         image: Snapshot::of(page),
-        lsn: page.lsn(),
-        changed: false,
-        place: Place::new(Some(number)),
+        lsn: HalvedLsn::new(page.lsn()),
+        standing: Standing::new(Some(number), false),
     };
     let frame = Frame {
         number,
