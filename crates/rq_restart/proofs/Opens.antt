@@ -16,7 +16,6 @@ use Rattle.rq_log.specs.Logged.{Logged}
 use Rattle.rq_page.specs.Pages.{lsn_of}
 use Rattle.rq_page.specs.Sizes.{Sizes, page_count}
 use Rattle.rq_pool.specs.Fetching.{AreAllFramed}
-use Rattle.rq_pool.specs.Numbered.{AreNumbered}
 use Rattle.rq_pool.specs.Pooled.{IsPool, Pooled, is_changed}
 use Rattle.rq_pool.specs.Reading.{ArePages, AreSeen, IsSuperblock, OnlyRead}
 use Rattle.rq_sound.specs.Sound.{IsSound}
@@ -287,6 +286,3 @@ module _ {P L : Type 0} (p : page_device.Ghosts P) (l : log_device.Ghosts L) (pa
     -- there is a frame beside that of the superblock
     pub some_frame : length loaded.frames ≡ min (page_count loaded.sizes) (count + 1) → 8 ≤ count → 1 < length loaded.frames
     some_frame every few = (let low = pages_sound.superblock.range.directory_low in omega (arith, every, few, low))
-
-    pub few_numbers : (numbers : List ℕ) → AreNumbered loaded.sizes loaded.images numbers → length numbers < 2 ^ 32
-    few_numbers numbers k = (let each = k.each in let d = pages_sound.superblock.range.directory_high in let n = pages_sound.superblock.range.cells_high in let t = pages_sound.superblock.range.tags_high in omega (arith, each, d, n, t))

@@ -16,7 +16,6 @@ ghost use Rattle.rq_store.specs.Fitting.{told_by, image_in};
 ghost use Rattle.rq_analysis.specs.LogTables.{PutsBack};
 ghost use Rattle.rq_analysis.specs.Rules.{CanBeRead, FollowAll, FollowsRules};
 ghost use Rattle.rq_restart.specs.Found.{IsAnalysisOf};
-ghost use Rattle.rq_restart.specs.Numbers.{AreNumbersOf, NamesFirst};
 ghost use Rattle.rq_restart.specs.Repeating.{AreMarked, ArePagesCounted, IsRecordRedone, paged};
 ghost use Rattle.rq_restart.specs.Refused.{IsStoppedBehind, NotRepeated};
 ghost use Rattle.rq_restart.specs.Standing.{Found, KeepsStore, NoneHeld, StandsRead};
@@ -25,7 +24,6 @@ ghost use Rattle.rq_restart.specs.Undoing.{GoesOn, HaveBeenHonest, HaveToldTruly
 use crate::again::puts_back;
 use crate::analysis::Analysis;
 use crate::appending::page_of;
-use crate::page_numbers::PageNumbers;
 use rq_bytes::equal::are_equal;
 use rq_disk::{LogDevice, PageDevice};
 use rq_level::Level;
@@ -38,20 +36,6 @@ use rq_page::layout::Layout;
 use rq_planner::StoreLevels;
 use rq_pool::Pages;
 use std::alloc::Global;
-
-/// That no number of the pages as they were read is beyond so many records; else it is refused with the first page of which
-/// one is.
-pub(crate) fn check_page_numbers(numbers: &PageNumbers, records: u64) -> Result<(), Refusal>
-    ensures counted { OnOk result ((z : Sizes) (first : Images) → AreNumbersOf z first numbers.now.numbers.items
-        → ArePagesCounted z records first) }
-    ensures names { IfErr result (λ e. (z : Sizes) (first : Images) → AreNumbersOf z first numbers.now.numbers.items
-        → NamesFirst z records first e) }
-{
-    match numbers.first_beyond(records) {
-        Some(page) => Err(Refusal::Damaged(Damage::Page(page))),
-        None => Ok(()),
-    }
-}
 
 /// Goes through a log as it is read: each record is checked, and what it writes is made where its page is older. None is
 /// kept. Where an older page is wanting, another gives way in a frame: the log is durable then.
