@@ -23,8 +23,8 @@ type Store<'a, R> = Engine<FilePages<Unknown>, FolderLog<'a, Unknown, R>, StoreL
 /// How many messages go from one force to the next, where there are frames enough.
 const MESSAGES_A_FORCE: u32 = 256;
 
-/// More pages than a message changes, sent and received.
-const PAGES_A_MESSAGE: u32 = 4;
+/// How many pages change at most where a message is sent and one is received.
+const PAGES_A_MESSAGE: u32 = 6;
 
 /// How many senders there are at least in a store.
 const SENDERS: u32 = 15;
@@ -42,7 +42,7 @@ struct Course {
 }
 
 /// Makes a store whose log has so many messages, sent and received, each by a transaction of its own, behind others that are only
-/// sent. With a frame for each page, the store's pages are as they were formatted; in fewer they are as they were when they last
+/// sent. They are forced as often as the frames want it. With a frame for each page, the store's pages are as they were formatted; in fewer they are as they were when they last
 /// gave way. Prints how many messages there are.
 pub fn make<R: Print + AllocGlobal + Files<File = File>>(
     rt: &R,
@@ -159,16 +159,10 @@ fn changed<Q: Queue>(queue: &mut Q, sent: u32, received: u32) -> Option<()> {
         force_at(queue, n, MESSAGES_A_FORCE)?;
     }
     for n in 0..received {
-        receive_first(queue)?;
+        receive_one(queue, 0)?;
         force_at(queue, n, MESSAGES_A_FORCE)?;
     }
     queue.force()
-}
-
-fn receive_first<Q: Queue>(queue: &mut Q) -> Option<()> {
-    let txn = queue.begin()?;
-    queue.receive_from(txn, 0)?;
-    queue.commit(txn)
 }
 
 // Forces what so many messages came to, behind the last of each run of them.
@@ -233,8 +227,9 @@ fn opened<'a, R: AllocGlobal + Files<File = File>>(
     }
 }
 
-// Sends messages that stay, and then sends and receives others, each by a transaction of its own, by all senders in turn. They are
-// forced.
+// Sends messages that stay, by all senders in turn. Then it sends and receives others, by one sender as many as wait of it, and then by
+// the next: of these each stands on another page than the one before, where there are senders for a page. Each message is sent and
+// received by a transaction of its own, and forced.
 fn exchange<Q: Queue>(queue: &mut Q, course: &Course) -> Option<()> {
     let senders = course.layout.senders();
     let run = messages_a_force(course.frames);
@@ -243,9 +238,11 @@ fn exchange<Q: Queue>(queue: &mut Q, course: &Course) -> Option<()> {
         force_at(queue, n, run)?;
     }
     queue.force()?;
+    let in_turn = course.waiting.checked_div(senders)?.max(1);
     for n in 0..course.messages {
-        send_one(queue, n.checked_rem(senders)?)?;
-        receive_one(queue)?;
+        let sender = n.checked_div(in_turn)?.checked_rem(senders)?;
+        send_one(queue, sender)?;
+        receive_one(queue, sender)?;
         force_at(queue, n, run)?;
     }
     queue.force()
@@ -257,8 +254,8 @@ fn send_one<Q: Queue>(queue: &mut Q, sender: u32) -> Option<()> {
     queue.commit(txn)
 }
 
-fn receive_one<Q: Queue>(queue: &mut Q) -> Option<()> {
+fn receive_one<Q: Queue>(queue: &mut Q, sender: u32) -> Option<()> {
     let txn = queue.begin()?;
-    queue.receive(txn)?;
+    queue.receive_from(txn, sender)?;
     queue.commit(txn)
 }
