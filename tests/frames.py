@@ -19,6 +19,7 @@ import sys
 from collections import Counter
 
 from cases import MOST_SECONDS, built, first_difference, shown
+from reference import ALL, Mending
 from world_reference import World
 
 FRAMES = (8, 9, 64)
@@ -31,6 +32,9 @@ SIZES = ((20, 2, 0), (7, 3, 0), (40, 2, 2))
 
 TRANSACTIONS = 20
 
+# How many operations a transaction finishes that is left without its end.
+FINISHED = 8
+
 # A list over ten pages, in 8 frames: two starts are PoolFull. It stands for a seed.
 ROW = "five-senders"
 ROW_SIZES = (5, 5, 0)
@@ -41,6 +45,9 @@ ROW_LINES = [
 
 # What shows the store behind its last crash.
 LAST = [b"crash 0 -", b"restart", b"content"]
+
+# What is kept of the records of a restart that stops again.
+KEEPS = b"0", b"%d" % ALL, b"0+20", b"1+20"
 
 # Of each page the newest image is left, or the synced one.
 NEWEST, SYNCED = b"-", b",".join([b"0"] * 64)
@@ -69,6 +76,8 @@ class Drawing:
             self.transaction()
             if self.random.randrange(3) == 0:
                 self.happen("content")
+        if seed % 2:
+            self.leave()
 
     def happen(self, *words):
         line = b" ".join(word if isinstance(word, bytes) else str(word).encode() for word in words)
@@ -110,6 +119,23 @@ class Drawing:
         self.happen("force")
         return True
 
+    def leave(self):
+        """An operation that is left without its end, and behind it a transaction without one that finishes some, by senders of one directory
+        page after the other. All is forced. What is undone first by pages, and then by inverses, was written long before."""
+        unfinished, lost = (self.happen("begin").split()[1] for _ in range(2))
+        while not (said := self.happen("start-send", unfinished, self.sender_of(), 7, b"left")).startswith("started"):
+            pass
+        for _ in range(2):
+            self.happen("step", *said.split()[1:])
+        self.happen("force")
+        finished, pages = 0, itertools.cycle(self.random.sample(range(self.sizes[0]), self.sizes[0]))
+        while finished < FINISHED:
+            finished += self.carry("start-send", lost, self.sender_of(next(pages)), finished, b"lost")
+
+    def sender_of(self, page=None):
+        """A sender, of this directory page or of any."""
+        return self.random.randrange(15) + 15 * (self.random.randrange(self.sizes[0]) if page is None else page)
+
     def abort(self, txn):
         self.happen("start-abort", txn)
         while self.carry("undo-next", txn):
@@ -145,6 +171,13 @@ def kind_of(line, is_read):
     return part + ("Read" if is_read else "Write")
 
 
+def kinds_of_opening(restarts):
+    """What the first of these restarts met, if anything: a read or a write that failed, or a stop, which the next ones may meet too."""
+    if restarts[0].startswith(b"crashed"):
+        return ["Stopped", "StoppedThrice"] if all(said.startswith(b"crashed") for said in restarts) else ["Stopped"]
+    return {b"not-opened 3 DiskRead": ["Read"], b"not-opened 15 DiskWrite": ["Write"]}.get(restarts[0], [])
+
+
 class Failing:
     """A list whose device calls fail in turn."""
 
@@ -157,6 +190,8 @@ class Failing:
         self.random = random.Random(seed)
         self.met = Counter({"PoolFull": self.wanted.count(b"refused 14 PoolFull")})
         self.goes_on = False  # some call of the list met the last failure
+        self.left = {}  # how many records a stop at a device call of the restart leaves, by its number
+        self.stood = []  # the numbers of these calls, and the kinds of what was met there
         self.name = f"seed {seed}, {frames} frames"
 
     def printed_by(self, lines):
@@ -198,20 +233,35 @@ class Failing:
 
     def fault_of_opening(self):
         """What is wrong where a device call of the restart behind the list fails, or the machine stops there; None where nothing is."""
-        for name, images in (("fail", b""), ("stop", NEWEST), ("stop", SYNCED)):
+        for name, images in (("stop", NEWEST), ("stop", SYNCED), ("fail", b"")):
             number, wrong, self.goes_on = 1, None, True
             while self.goes_on:
                 wrong = self.fault_at(name, images, number)
                 if wrong:
                     return wrong
                 number += 1
+        self.count_undoing()
         return None
+
+    def count_undoing(self):
+        """Counts what was met at the calls amid what the restart undoes. They come behind a force of records that it made, and before one
+        but the last, by how many the log held behind a stop there that kept what is forced."""
+        world = World(*self.sizes)
+        for line in self.lines + [OLD]:
+            world.happen(line)
+        by_pages = sum(len(writes) + 1 for writes in Mending(world.store).open_writes.values())
+        before, most = len(world.store.devices.records), max(self.left.values())
+        for number, kinds in self.stood:
+            made = self.left[number] - before
+            if 0 < made < most - before:
+                self.met.update(("UndoingPages" if made < by_pages else "UndoingDeeds") + kind for kind in kinds)
 
     def fault_at(self, name, images, number):
         """The same of one device call. Behind the last one the store opens at once. Where the machine stops, it does so again at calls of
-        the two restarts behind that, which are drawn."""
+        the two restarts behind that, which are drawn, with what is kept of their records."""
         calls = [number, *(self.random.randrange(1, number + 1) for _ in range(2))]
-        stops = [b"restart-stop %d 0 " % call + images for call in calls]
+        keeps = [b"0", *(self.random.choice(KEEPS) for _ in range(2))]
+        stops = [b"restart-stop %d %s " % each + images for each in zip(calls, keeps)]
         spoiled = [b"fail %d" % number, b"restart"] if name == "fail" else stops
         told = self.told(self.lines + [OLD] + spoiled + [b"fail 0", b"restart", b"content"])
         restarts = told[-4:-3] if name == "fail" else told[-6:-3]
@@ -220,13 +270,15 @@ class Failing:
         is_open = any(said.startswith(b"restarted") for said in restarts)
         wanted = (b"running" if is_open else b"restarted", self.wanted[-1])
         what = f"{self.name}, {name} {' '.join(map(str, calls))} of the restart"
-        self.met["OpeningStoppedThrice"] += len(restarts) == 3 and all(said.startswith(b"crashed") for said in restarts)
-        if before == b"not-opened 15 DiskWrite" or before.startswith(b"crashed"):
-            self.met["OpeningStopped" if name == "stop" else "OpeningWrite"] += 1
-        elif before == b"not-opened 3 DiskRead":
-            self.met["OpeningRead"] += 1
-        elif self.goes_on:
+        kinds = kinds_of_opening(restarts)
+        if self.goes_on and not kinds:
             return differs([before], [b"restarted"], what)
+        self.met.update("Opening" + kind for kind in kinds)
+        self.met["OpeningUndoesBoth"] += before.startswith(b"restarted 2 1 1 ")
+        if kinds:
+            self.stood.append((number, kinds))
+        if "Stopped" in kinds:
+            self.left[number] = int(before.split(b" ")[1])
         return differs([opened.split(b" ")[0], content], list(wanted), what)
 
     def fault_of(self, number):
