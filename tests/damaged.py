@@ -862,8 +862,9 @@ def with_more_tags(pages):
 
 
 def wide_log():
-    """A sender of each directory page has a message that is committed. Then comes an operation without an end on three of these pages, and a
-    transaction without one that closes each such sender. So all pages are wanted in turn, and those that are undone last stand in no frame."""
+    """A sender of each directory page has a message that is committed. Then comes an operation without an end on three of these pages,
+    and a transaction without one that closes each such sender. So all pages are wanted in turn. Those that are undone last stand in no
+    frame."""
     records, cells = [BEGUN], 1 + WIDE
     for at in range(WIDE):
         sender, txn, address = 15 * at, at + 1, 16 * cells + at + 1

@@ -5,7 +5,9 @@ one. A call that is refused as DiskRead has changed nothing: made again, it and 
 is refused as DiskWrite stops the store, which a crash and a restart open again, as it was in front of that call. So they do where the
 machine stops at a device call of a start, of an inverse or of a content. A crash that leaves old images of all pages has the restart
 change more pages than it has frames for, so that pages make way for others and are read again. Each of its device calls fails in turn.
-The machine stops at each, and then in the two restarts behind that. So it goes with a list in which frames are wanting for a start.
+The machine stops at each, and then in the two restarts behind that. Every second list leaves an operation and a transaction without an
+end, so that pages also make way for what is undone by pages, and by inverses. How often something is met amid that is counted apart.
+So it goes with a list in which frames are wanting for a start.
 
     python3 tests/frames.py [--program PROGRAM] [--first SEED] [--lists N]
 """
@@ -120,8 +122,8 @@ class Drawing:
         return True
 
     def leave(self):
-        """An operation that is left without its end, and behind it a transaction without one that finishes some, by senders of one directory
-        page after the other. All is forced. What is undone first by pages, and then by inverses, was written long before."""
+        """An operation that is left without its end, and behind it a transaction without one that finishes some, by senders of one
+        directory page after the other. All is forced. What is undone by pages, and then by inverses, was written long before."""
         unfinished, lost = (self.happen("begin").split()[1] for _ in range(2))
         while not (said := self.happen("start-send", unfinished, self.sender_of(), 7, b"left")).startswith("started"):
             pass
@@ -190,12 +192,19 @@ class Failing:
         self.random = random.Random(seed)
         self.met = Counter({"PoolFull": self.wanted.count(b"refused 14 PoolFull")})
         self.goes_on = False  # some call of the list met the last failure
+        self.fronts = {}  # what the list prints up to a line, by its place
         self.left = {}  # how many records a stop at a device call of the restart leaves, by its number
         self.stood = []  # the numbers of these calls, and the kinds of what was met there
         self.name = f"seed {seed}, {frames} frames"
 
     def printed_by(self, lines):
         return printed_by(lines, self.sizes, self.frames)
+
+    def before(self, at):
+        """What is printed where the list goes up to this line, with what shows the store behind it."""
+        if at not in self.fronts:
+            self.fronts[at] = self.printed_by(self.lines[:at] + LAST)
+        return self.fronts[at]
 
     def told(self, lines):
         return told_by(self.program, lines, self.sizes, self.frames)
@@ -214,7 +223,7 @@ class Failing:
         """What is wrong where the machine stops at a device call that makes pages be read, or make way; None where nothing is."""
         for at, line in enumerate(self.lines):
             if line.startswith((b"start-", b"undo-next", b"content")):
-                wanted = self.printed_by(self.lines[:at] + LAST)[-1]
+                wanted = self.before(at)[-1]
                 wrong = self.fault_of_stop(at, NEWEST, wanted) or self.fault_of_stop(at, SYNCED, wanted)
                 if wrong:
                     return wrong
@@ -298,7 +307,7 @@ class Failing:
         if said != b"refused 15 DiskWrite":
             return differs([said], [wanted[at]], what)
         self.met.update(["DiskWrite", kind_of(lines[at], False)])
-        before = self.printed_by([self.lines[0]] + lines[2:at] + LAST)
+        before = self.before(at - 1)
         behind = [b"refused 2 Failed"]
         lines = lines[: at + 1] + [b"force"] + LAST
         return differs(self.told(lines), [wanted[0], b"nothing"] + before[1 : at - 1] + [said] + behind + before[at - 1 :], what)

@@ -633,8 +633,8 @@ class Store:
         return report
 
     def restart_cut_off(self, left, places):
-        """The same in fewer frames than pages, where the program chooses which device calls it makes: how many records are left, if as many as
-        this may be, else those that were there before."""
+        """The same in fewer frames than pages, where the program chooses which device calls it makes. So many records are left, if they
+        may be; else those that were there before."""
         before, met, is_cut = len(self.devices.records), Counter(self.met), self.is_cut
         self.restart()
         made = self.devices.records[before:]

@@ -47,8 +47,9 @@ class World:
         self.row = 0  # how many restarts were stopped one after the other, each with some of its records made
 
     def happen(self, line, picked=None, told=b""):
-        """What the happening comes to. A receive of any group takes from the sender picked, where it may. Where frames are fewer than pages,
-        a page that is told to have no change went out before, if it may have, and a restart that is stopped leaves as many records as told."""
+        """What the happening comes to. A receive of any group takes from the sender picked, where it may. Where frames are fewer
+        than pages, a page that is told to have no change went out before, if it may have. A restart that is stopped leaves as many
+        records as it told, if it may."""
         self.told = told
         before = len(self.store.devices.records)
         was_idle = self.store.has_idle_beside() if line.startswith(b"restart-stop") else False

@@ -53,6 +53,7 @@ WANTED = {
     "MigrationFailedInReplace": 8, "MigrationFailedInSuperblock": 9, "MigrationFailedInLastSync": 12,
     "MigrationStoppedInTags": 12, "MigrationStoppedInForce": 12, "MigrationStoppedInWrite": 4, "MigrationStoppedInSync": 7,
     "MigrationStoppedInReplace": 9, "MigrationStoppedInSuperblock": 10, "MigrationStoppedInLastSync": 10,
+    "PoolFull": 2400, "StoppedInFew": 480,
 }  # fmt: skip
 
 LENGTH = 160
@@ -247,8 +248,8 @@ WAYS = 20
 
 
 class Calls(courses.Drawing):
-    """A course of tests/courses.py, call by call: receives and closes are under way beside others, too. Some run in fewer frames than pages.
-    There no device call fails, and the machine stops in restarts alone, since which calls are made the program chooses."""
+    """A course of tests/courses.py, call by call: receives and closes are under way beside others, too. Some run in fewer frames than
+    pages. There no device call fails, and the machine stops in restarts alone, since the program chooses which calls it makes."""
 
     NAMES = {"open-send": "start-send", "send": "start-send", "recv": "start-receive", "recv-from": "start-receive-from",
              "close": "start-close", "mark": "start-mark", "abort": "start-abort", "undo": "undo-next", "dump": "content"}  # fmt: skip
