@@ -496,6 +496,10 @@ module _ (n : ℕ) (pages : MemPages) (log : MemLog) (h : Hold pages formatted_p
           ),
         );
         leaves = λ honest. left_alone;
+        written = record {
+          now = λ page c may. inl may;
+          time = record { later = omega arith; nothing_else = λ t c before since. inl since; keeps = λ t c before past. past };
+        };
       })
 
   fits_over : (z : Sizes) (first : Images) (new : MemLog) → n < 2 ^ 50 → StopsOver mem_log z first why.LogFull log new → ⊥
