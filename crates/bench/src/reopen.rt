@@ -42,8 +42,8 @@ struct Course {
 }
 
 /// Makes a store whose log has so many messages, sent and received, each by a transaction of its own, behind others that are only
-/// sent. They are forced as often as the frames want it. With a frame for each page, the store's pages are as they were formatted; in fewer they are as they were when they last
-/// gave way. Prints how many messages there are.
+/// sent. They are forced as often as the frames want it. With a frame for each page, the store's pages are as they were formatted. In
+/// fewer they are as they were when they last gave way. Prints how many messages there are.
 pub fn make<R: Print + AllocGlobal + Files<File = File>>(
     rt: &R,
     words: &[String],
