@@ -11,12 +11,13 @@ What is opened, each in as many frames as its row says:
 
 The opening and `cat` run by turns, both with the files in memory; each opening is of a copy, since it adds a record. What a program
 takes that opens a store of three pages is taken off the opening, and what `cat` takes of that store's files off the other. The aim is
-that an opening takes at most three times as long as `cat`, in the middle of the runs. Each line ends with the greatest memory that the
-program had, and how much more that is than with three pages.
+that an opening takes at most three times as long as `cat`, in the middle of the runs. The same is told of processor time, which a busy
+machine disturbs less. Each line ends with the greatest memory that the program had, and how much more that is than with three pages.
 
     python3 bench/restart.py [--program PROGRAM] [--folder FOLDER] [--runs 11]
 """
 import os
+import resource
 import shutil
 import statistics
 import subprocess
@@ -31,9 +32,9 @@ FEW, ALL = 64, 67_585
 # Each store: directory pages, cell pages, messages; in how many frames it is made, and how many messages wait.
 SMALL = (1, 1, 0, ALL, 0)
 OLD = (4, 64, 24_600, ALL, 0)
-FORMATTED = (4, 1024, 10_500, ALL, 15_300)
-WRITTEN = (4, 1024, 10_500, FEW, 15_300)
-EMPTIER = (4, 1024, 17_200, FEW, 1_920)
+FORMATTED = (4, 1024, 9_900, ALL, 15_300)
+WRITTEN = (4, 1024, 9_900, FEW, 15_300)
+EMPTIER = (1, 1024, 16_600, FEW, 1_920)
 LARGE = (1, 65_536, 0, ALL, 0)
 # What is opened, and in how many frames.
 ROWS = [
@@ -48,14 +49,14 @@ ROWS = [
 ]
 
 
-def seconds_of(command, expected=""):
-    """Seconds of one run."""
-    start = time.monotonic()
+def times_of(command, expected=""):
+    """Seconds of one run, and of the processor."""
+    start, before = time.monotonic(), resource.getrusage(resource.RUSAGE_CHILDREN)
     ended = subprocess.run(command, stdout=subprocess.PIPE if expected else subprocess.DEVNULL)
-    seconds = time.monotonic() - start
+    seconds, after = time.monotonic() - start, resource.getrusage(resource.RUSAGE_CHILDREN)
     if ended.returncode != 0 or (expected and not ended.stdout.decode().startswith(expected)):
         sys.exit(f"{command}: status {ended.returncode}, {ended.stdout}")
-    return seconds
+    return seconds, after.ru_utime + after.ru_stime - before.ru_utime - before.ru_stime
 
 
 def files_in(folder):
@@ -72,13 +73,13 @@ def copied(folder, copy):
         shutil.copy(files_in(folder)[0], pages)
         with open(copy + ".made", "w"):
             pass
-    seconds_of(["sync"])
+    times_of(["sync"])
 
 
 def opening(program, folder, copy, frames):
-    """Seconds of one opening of a copy, which is told to come to nothing else."""
+    """The times of one opening of a copy, which has nothing to undo."""
     copied(folder, copy)
-    return seconds_of([program, "open", copy, str(frames)], "restarted 2 unfinished 0 lost 0, ")
+    return times_of([program, "open", copy, str(frames)], "restarted 2 unfinished 0 lost 0, ")
 
 
 def peak(program, folder, copy, frames):
@@ -86,6 +87,12 @@ def peak(program, folder, copy, frames):
     copied(folder, copy)
     told = subprocess.run(["/usr/bin/time", "-f", "%M", program, "open", copy, str(frames)], capture_output=True, check=True)
     return int(told.stderr)
+
+
+def beyond_small(times, place, kind):
+    """The middle of a row's times of one kind, without that of the first row's."""
+    row, small = (statistics.median(run[kind] for run in times[at]) for at in (place, 0))
+    return row - small
 
 
 def main():
@@ -100,25 +107,26 @@ def main():
             if store not in folders:
                 folders[store] = os.path.join(top, str(len(folders)))
                 os.mkdir(folders[store])
-                seconds_of([program, "make", folders[store], *map(str, store)], f"{store[2]} messages")
+                times_of([program, "make", folders[store], *map(str, store)], f"{store[2]} messages")
         opened = [[] for _ in ROWS]
         read = [[] for _ in ROWS]
         for _ in range(words.runs):
             for place, (_, store, frames) in enumerate(ROWS):
                 folder = folders[store]
                 opened[place].append(opening(program, folder, f"{folder}.copy", frames))
-                read[place].append(seconds_of(["cat", *files_in(folder)]))
+                read[place].append(times_of(["cat", *files_in(folder)]))
         kilobytes = [peak(program, folders[store], f"{folders[store]}.copy", frames) for _, store, frames in ROWS]
         for place, (name, store, frames) in enumerate(ROWS):
             if store == SMALL:
                 continue
             size = sum(map(os.path.getsize, files_in(folders[store])))
-            mine, cat = (statistics.median(each[place]) - statistics.median(each[0]) for each in (opened, read))
+            (mine, cat), (mine_busy, cat_busy) = ([beyond_small(each, place, kind) for each in (opened, read)] for kind in (0, 1))
             print(
                 f"{name}, {'a frame for each page' if frames == ALL else f'{frames} frames'}: {size / 1e6:.0f} MB, opened in "
                 f"{mine * 1e3:.0f} ms ({size / mine / 1e6:.0f} MB/s), read by cat in {cat * 1e3:.0f} ms ({size / cat / 1e6:.0f} MB/s): "
-                f"{mine / cat:.2f} times as long, aim {AIM:.0f}; {kilobytes[place]:,} KB at most, {kilobytes[place] - kilobytes[0]:,} "
-                f"more than with three pages"
+                f"{mine / cat:.2f} times as long, aim {AIM:.0f}; processor {mine_busy * 1e3:.0f} and {cat_busy * 1e3:.0f} ms, "
+                f"{mine_busy / cat_busy:.2f} times; {kilobytes[place]:,} KB at most, {kilobytes[place] - kilobytes[0]:,} more than with "
+                f"three pages"
             )
 
 
