@@ -1,4 +1,7 @@
-use Rattle.std.proofs.Common.{◌≡◌, inl, inr, refl}
+use Rattle.std.proofs.Common.{◌≡◌, List, inl, inr, refl, subst, sym}
+use Rattle.rq_pool.specs.declared.ahead.Ahead.{Ahead}
+use Rattle.rq_restart.specs.Numbers.{AreNumbersOf}
+use Rattle.rq_restart.specs.Repeating.{paged}
 use Rattle.rq_restart.proofs.Numbers.{numbers_of}
 use Rattle.rq_restart.proofs.Opens.{opens, read_enough, refused_over, refuses, some_frame}
 use Rattle.rq_restart.proofs.Paths.{keeps_stores, keeps_unread}
@@ -13,7 +16,9 @@ restart_log-requires-clause-more g c =
     some_frame P g.L.LogDevice c.args.pages c.args.log g.met.P.PageDevice.only_now c.in-Ok.pages loaded.pages loaded.seen loaded.device c.args.frames.count loaded.framed loaded.every c.args.frames.few
 
 pub restart_log-requires-clause-numbers : goal.restart_log-requires-clause-numbers
-restart_log-requires-clause-numbers g c = numbers_of c.in-Ok.pages.sizes c.in-Ok.pages.images c.in-Ok.ahead.items c.in-Ok.ensures.numbers
+restart_log-requires-clause-numbers g c =
+    subst (λ (ahead : List Ahead). AreNumbersOf c.in-Ok.pages.sizes (paged c.in-Ok.pages) ahead) (sym c.deref.ensures.value)
+    (numbers_of c.in-Ok.pages.sizes c.in-Ok.pages.images c.in-Ok.ahead.items c.in-Ok.ensures.numbers)
 
 pub open-engine-requires-clause-loose : goal.open-engine-requires-clause-loose
 open-engine-requires-clause-loose g c = c.in-Ok-restart_log.ensures.opened.continues.held c.in-Ok.ensures.loose
