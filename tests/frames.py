@@ -59,8 +59,11 @@ OLD = b"crash 0 " + SYNCED
 
 # What has to be met, the usual lists taken together, and how often at least.
 WANTED = {
-    "DiskRead": 2200, "DiskWrite": 3000, "ContentRead": 1900, "StartRead": 290, "StartWrite": 190, "UndoRead": 2, "UndoWrite": 2,
-    "OpeningRead": 500, "OpeningWrite": 200, "OpeningStopped": 1400, "OpeningStoppedThrice": 1300, "Stopped": 5000, "PoolFull": 2,
+    "DiskRead": 2200, "DiskWrite": 3000, "ContentRead": 1900, "StartRead": 350, "StartWrite": 250, "UndoRead": 2, "UndoWrite": 2,
+    "OpeningRead": 1850, "OpeningWrite": 420, "OpeningStopped": 4500, "OpeningStoppedThrice": 4300, "Stopped": 4900, "PoolFull": 2,
+    "OpeningUndoesBoth": 27, "UndoingPagesRead": 150, "UndoingPagesWrite": 16, "UndoingPagesStopped": 340,
+    "UndoingPagesStoppedThrice": 330, "UndoingDeedsRead": 55, "UndoingDeedsWrite": 45, "UndoingDeedsStopped": 200,
+    "UndoingDeedsStoppedThrice": 180,
 }  # fmt: skip
 
 
