@@ -1,9 +1,8 @@
 -- What is written of pages over any devices, from call to call: pages of a store alone.
-use Rattle.std.proofs.Common.{◌≡◌, ◌⊎◌, ⊎_elim, ℕ, ◌≤◌, ◌<◌, List, inl, inr, sym, ◌∙◌, ap, subst, arith}
-use Rattle.rq_disk.specs.Device.{Images, Leaves}
+use Rattle.std.proofs.Common.{◌≡◌, ◌⊎◌, ⊎_elim, ℕ, List, inl, inr, sym, ◌∙◌, ap, subst, arith}
 use Rattle.rq_disk.specs.declared.device.PageDevice.{Ghosts}
 use Rattle.rq_page.specs.Formatted.{IsFormatted}
-use Rattle.rq_page.specs.Sizes.{Sizes, page_count}
+use Rattle.rq_page.specs.Sizes.{Sizes}
 use Rattle.rq_pool.specs.KeptUp.{IsKeptUp, MayBeKept}
 use Rattle.rq_pool.specs.Pooled.{IsPool, Pooled, image_at}
 use Rattle.rq_pool.specs.Reading.{IsSoundPage, OnlyRead}

@@ -1,9 +1,7 @@
 //! Records that a restart makes behind the log that it read.
-ghost use Rattle.std.specs.Prelude.{◌≡◌, ◌∷◌, ◌+◌, ◌-◌, ◌^◌, ◌<◌, ◌≤◌, IfErr, IfNone, IfSome, IsTrue, OnErr, OnOk, None, false, length};
+ghost use Rattle.std.specs.Prelude.{◌≡◌, ◌∷◌, ◌+◌, ◌-◌, ◌<◌, IfErr, IfNone, IfSome, IsTrue, OnOk, None, false, length};
 ghost use Rattle.rq_log.specs.Spelled.{AreSpelled};
 ghost use Rattle.rq_model.specs.Bases.{is_base};
-ghost use Rattle.rq_page.specs.Sizes.{page_count};
-ghost use Rattle.rq_pool.specs.KeptUp.{IsKeptUp};
 ghost use Rattle.rq_pool.specs.Pooled.{IsPool};
 ghost use Rattle.rq_record.specs.Spelling.{IsInRange};
 ghost use Rattle.rq_store.specs.Fitting.{told_by, image_in};

@@ -1,5 +1,5 @@
 //! The numbers of pages: none may be beyond the log, whose length is known once it was gone through.
-ghost use Rattle.std.specs.Prelude.{◌≡◌, ◌<◌, ◌≤◌, ℕ, List, IfErr, IfNone, IfSome, OnOk, length};
+ghost use Rattle.std.specs.Prelude.{◌≡◌, ◌<◌, ℕ, List, IfErr, IfNone, IfSome, OnOk, length};
 ghost use Rattle.rq_disk.specs.Device.{Images};
 ghost use Rattle.rq_model.specs.declared.record.Record.{Record as AnyRecord};
 ghost use Rattle.rq_page.specs.Sizes.{page_count};

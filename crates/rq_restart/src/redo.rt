@@ -1,11 +1,10 @@
 //! Going through a log: each slot write that is not on its page yet is made there.
 ghost use Rattle.std.specs.Prelude.{◌≡◌, ◌↔◌, ◌≤◌, ◌<◌, ◌+◌, ◌-◌, ◌^◌, ◌∷◌, [], List, IsOk, IsTrue, None, false, IfOk, IfErr, OnErr, OnOk, length};
-ghost use Rattle.rq_disk.specs.Device.{Images};
 ghost use Rattle.rq_model.specs.declared.record.Record.{Record as AnyRecord};
 ghost use Rattle.rq_model.specs.Bases.{is_base};
 ghost use Rattle.rq_log.specs.Reading.{EndsShort, IsRead};
 ghost use Rattle.rq_log.specs.Spelled.{spelled};
-ghost use Rattle.rq_page.specs.Sizes.{Sizes, page_count};
+ghost use Rattle.rq_page.specs.Sizes.{page_count};
 ghost use Rattle.rq_page.specs.Pages.{lsn_of, slot_of};
 ghost use Rattle.rq_pool.specs.Fetching.{AreAllFramed};
 ghost use Rattle.rq_pool.specs.Held.{IsFramed};
@@ -16,7 +15,7 @@ ghost use Rattle.rq_store.specs.Fitting.{told_by, image_in};
 ghost use Rattle.rq_analysis.specs.LogTables.{PutsBack};
 ghost use Rattle.rq_analysis.specs.Rules.{CanBeRead, FollowAll, FollowsRules};
 ghost use Rattle.rq_restart.specs.Found.{IsAnalysisOf};
-ghost use Rattle.rq_restart.specs.Repeating.{AreMarked, ArePagesCounted, IsRecordRedone, paged};
+ghost use Rattle.rq_restart.specs.Repeating.{AreMarked, IsRecordRedone, paged};
 ghost use Rattle.rq_restart.specs.Refused.{IsStoppedBehind, NotRepeated};
 ghost use Rattle.rq_restart.specs.Standing.{Found, KeepsStore, NoneHeld, StandsRead};
 ghost use Rattle.rq_restart.specs.Undoing.{GoesOn, HaveBeenHonest, HaveToldTruly, IsDurable, IsRepeatedOn, NamesNoDevice, NotBroughtFor, StandsOrIsNewer};

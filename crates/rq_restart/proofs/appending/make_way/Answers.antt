@@ -1,11 +1,9 @@
 use Rattle.std.proofs.Common.{rules, ◌≡◌, ◌-◌, ◌^◌, Err, true, false, inr, refl, sym, ◌∙◌, ap, subst}
-use Rattle.std.specs.Prelude.{◌≢◌, IfErr}
 use Rattle.std.proofs.lemmas.Result.{IfErr-weaker, on_ok_weaker}
 use Rattle.rq_model.specs.declared.refusal.Refusal.{Refusal}
 use Rattle.rq_log.specs.Spelled.{spelled}
 use Rattle.rq_page.specs.Sizes.{Sizes}
 use Rattle.rq_pool.proofs.KeptUp.{kept_still}
-use Rattle.rq_model.specs.declared.refusal.Refusal.TheVariants as why
 use Rattle.rq_restart.specs.Undoing.{FailsWith, IsToBeWritten, MakesWay, NamesDevice, failures}
 use Rattle.rq_restart.proofs.GoingOn.{not_brought_fails, not_brought_names, on_err, on_ok}
 use Rattle.rq_restart.proofs.Telling.{tells_forced}

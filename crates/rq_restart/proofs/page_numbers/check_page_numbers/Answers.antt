@@ -1,4 +1,4 @@
-use Rattle.std.proofs.Common.{ℕ, length, subst}
+use Rattle.std.proofs.Common.{ℕ, subst}
 use Rattle.rq_restart.specs.Numbers.{IsFirstBeyond, NoneBeyond}
 use Rattle.rq_restart.specs.Repeating.{paged}
 use Rattle.rq_page.specs.Sizes.{page_count}

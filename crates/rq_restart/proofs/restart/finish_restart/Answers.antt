@@ -12,7 +12,7 @@ use Rattle.rq_restart.specs.Checked.{WasReadAndRedone}
 use Rattle.rq_restart.specs.Repeating.{ArePagesCounted, paged}
 use Rattle.rq_restart.specs.Restarting.{Reports}
 use Rattle.rq_restart.specs.RolledBack.{HasRepeated}
-use Rattle.rq_restart.specs.Undoing.{FailsWith, HaveBeenHonest, HaveToldTruly, failures}
+use Rattle.rq_restart.specs.Undoing.{FailsWith, HaveBeenHonest, HaveToldTruly}
 use Rattle.rq_restart.proofs.Begun.{begins, last_is, not_begun, reports}
 use Rattle.rq_restart.proofs.Continuing.{continues_on, fails_behind}
 use Rattle.rq_restart.proofs.GoingOn.{goes_nowhere, goes_reading, goes_then, told_behind, told_first}

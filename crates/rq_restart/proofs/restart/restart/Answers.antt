@@ -1,4 +1,4 @@
-use Rattle.std.proofs.Common.{◌≡◌, List, inl, inr, refl, subst, sym}
+use Rattle.std.proofs.Common.{List, inl, inr, refl, subst, sym}
 use Rattle.rq_pool.specs.declared.ahead.Ahead.{Ahead}
 use Rattle.rq_restart.specs.Numbers.{AreNumbersOf}
 use Rattle.rq_restart.specs.Repeating.{paged}

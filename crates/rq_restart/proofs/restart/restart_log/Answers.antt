@@ -1,7 +1,4 @@
 use Rattle.std.proofs.Common.{◌<◌, ℕ, Ok, sym, subst}
-use Rattle.rq_page.specs.Sizes.{Sizes}
-use Rattle.rq_restart.specs.Numbers.{AreNumbersOf}
-use Rattle.rq_restart.specs.Repeating.{paged}
 use Rattle.rq_restart.proofs.Continuing.{all_continues, begins_so, none_fail_behind, refuses_reading, refuses_so, repeats_so, tells_behind}
 use Rattle.rq_restart.proofs.restart.restart_log.Goals as goal
 
