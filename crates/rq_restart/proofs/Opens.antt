@@ -237,6 +237,7 @@ module _ {P L : Type 0} (p : page_device.Ghosts P) (l : log_device.Ghosts L) (pa
           sizes = λ h. subst (λ z. IsSuperblock z (p.seen pages 0)) (sym o.continues.sizes) (told_on loaded.sizes (p.seen pages) loaded.images pages_sound (seen (o.continues.pages_honest h)));
           checked = λ told. checked (told_truly told);
           marked = newer;
+          told = λ h. (o.read.records, record { honest = h; are_spelled = o.was_read.are_spelled; reads = o.was_read.reads (o.honest h) });
           over = all;
           recovers = λ older r on. recovers engine report o.pool (checked (inr on.honest, r.honest)) older r (all older r) on o.restarted.forced (leaves (on.honest, r.honest));
           running = refl;
@@ -264,7 +265,7 @@ module _ {P L : Type 0} (p : page_device.Ghosts P) (l : log_device.Ghosts L) (pa
       images = loaded.images;
       were = record { sound = pages_sound; seen = λ h. seen (r.honest h) };
       fails = pages_since p pages loaded.device new_pages cause e (failures l.faults log new_log) r.fails;
-      read = λ few. (let stood = r.stood (framed few) in (subst (OnlyRead p pages) (sym stood.0) only, stood.1, begins_from p l pages log loaded pages_sound seen new_pages new_log r.honest stood.2));
+      read = λ few. (let stood = r.stood (framed few) in (subst (OnlyRead p pages) (sym stood.0) only, stood.1, begins_from p l pages log loaded pages_sound seen new_pages new_log r.honest stood.2, ap p.faults stood.0 ∙ cause));
       told = λ other h older told reads. (r.telling h older told reads).reads other;
       unread = r.unread;
       written = sound_since p loaded.sizes pages loaded.device new_pages only r.written;

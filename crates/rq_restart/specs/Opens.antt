@@ -61,6 +61,8 @@ module _ {P L : Type 0} (p : page_device.Ghosts P) (l : log_device.Ghosts L) (pa
     -- what was checked, where what was read is the store's
     pub checked : TellTruly p l pages log count s.state.sizes s.pages s.log
         → WasChecked p l pages log s.state.sizes (paged (pooled s)) s.state.records s.pages s.log
+    -- an honest device told a log, and what was opened over it has its commits
+    pub told : l.honest s.log → (older : List Record) × IsReadAs l log s.log older
     pub over : (older : List Record) → IsReadAs l log s.log older → OpensOver older s report
     pub recovers : (older : List Record) → IsReadAs l log s.log older → IsLeftOn p s.state.sizes pages s.pages older
         → Recovers p pages older s report
@@ -78,7 +80,7 @@ module _ {P L : Type 0} (p : page_device.Ghosts P) (l : log_device.Ghosts L) (pa
     -- a page that counts as changed is newer than it was read
     pub marked : p.honest s.pages → (q : ℕ) → q < page_count s.state.sizes → is_changed s.changed q ≡ true
         → lsn_of (p.seen pages q) < lsn_of (image_at s.state.images q)
-    -- whatever the devices are, pages of that store alone were written
+    -- whatever the devices are, what was written of that store's pages are pages of one of its sizes
     pub written : LeavesSound p s.state.sizes pages s.pages
     -- what a crash leaves of the pages, of honest devices
     pub pages_left : HaveBeenHonest p l s.pages s.log → LeavesPages p l pages log s.pages s.state.sizes s.state.records
