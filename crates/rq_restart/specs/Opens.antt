@@ -80,7 +80,7 @@ module _ {P L : Type 0} (p : page_device.Ghosts P) (l : log_device.Ghosts L) (pa
     -- a page that counts as changed is newer than it was read
     pub marked : p.honest s.pages → (q : ℕ) → q < page_count s.state.sizes → is_changed s.changed q ≡ true
         → lsn_of (p.seen pages q) < lsn_of (image_at s.state.images q)
-    -- whatever the devices are, what was written of that store's pages are pages of one of its sizes
+    -- whatever the devices are, pages of that store alone were written
     pub written : LeavesSound p s.state.sizes pages s.pages
     -- what a crash leaves of the pages, of honest devices
     pub pages_left : HaveBeenHonest p l s.pages s.log → LeavesPages p l pages log s.pages s.state.sizes s.state.records

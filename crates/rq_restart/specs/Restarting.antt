@@ -300,8 +300,8 @@ module _ {P L : Type 0} (p : page_device.Ghosts P) (l : log_device.Ghosts L) (pa
 
   -- The pages were all read and are sound, and then this. Where the frames are enough, the pages were only read, and none again in vain;
   -- so was the log, unless a device failed in a write. In any number of frames an honest log that told records tells these, with others behind, unless
-  -- a device failed in a write; one that told none was only read. Whatever both devices are, what was written of the store's pages
-  -- are pages of one of its sizes.
+  -- a device failed in a write; one that told none was only read. Whatever both devices are, pages of that store alone were
+  -- written.
   pub record IsRefusedOver (count : ℕ) (e : Refusal) (new_pages : P) (new_log : L) : Type 0 where
     pub sizes : Sizes
     pub images : List (List ℕ)

@@ -127,6 +127,7 @@ NamesDevice _ = ⊥
 pub record MakesWay {P L : Type 0} (p : page_device.Ghosts P) (l : Ghosts L) (old : Pooled P) (log : Logged L)
     (result : Result Unit Refusal) (new : Pooled P) (now : Logged L) : Type 0 where
   pub pool : IsPool old.sizes old.images
+  pub marks : length old.changed ≡ page_count old.sizes
   pub kept : IsKeptUp p (2 ^ 64 - 1) old new
   pub stood : AreAllFramed old → (new ≡ old) × (now ≡ log)
   pub count : length new.frames ≡ length old.frames

@@ -43,6 +43,7 @@ pub(crate) fn make_way<P: PageDevice + Drop, L: LogDevice + Drop>(
     ensures stands { OnOk result (StandsToWrite pages.new undo.now) }
     ensures made { MakesWay P.PageDevice L.LogDevice pages.old log.old result pages.new log.new }
 {
+    pages.shows_kept();
     let Some(page) = page_of(&pages.layout(), undo) else {
         return Ok(());
     };

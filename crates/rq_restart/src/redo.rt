@@ -108,6 +108,7 @@ fn bring_in<P: PageDevice + Drop>(
     requires more { 1 < length pages.old.frames }
     ensures stands { OnOk result (StandsOrIsNewer pages.new lsn «record».now) }
     ensures pool { IsPool pages.old.sizes pages.old.images }
+    ensures marks { length pages.old.changed ≡ page_count pages.old.sizes }
     ensures kept { IsKeptUp P.PageDevice (2 ^ 64 - 1) pages.old pages.new }
     ensures stood { AreAllFramed pages.old → IsOk result × (pages.new ≡ pages.old) }
     ensures count { length pages.new.frames ≡ length pages.old.frames }
@@ -115,6 +116,7 @@ fn bring_in<P: PageDevice + Drop>(
     ensures counted { OnOk result (P.faults pages.new.device ≡ P.faults pages.old.device) }
     ensures fails { IfErr result (λ e. NotBroughtFor P.PageDevice «record».now e pages.old pages.new) }
 {
+    pages.shows_kept();
     let Some(page) = page_of(&pages.layout(), record) else {
         return Ok(());
     };
