@@ -88,7 +88,7 @@ fn filled<R: AllocGlobal + Files<File = File>>(
     done
 }
 
-/// Opens the store, in so many frames or in as many as there may be, and prints what came of it: a report, or why not.
+/// Opens the store, in so many frames, or in as many as there may be. Prints a report, or why it was not opened.
 pub fn open<R: Print + AllocGlobal + Files<File = File>>(
     rt: &R,
     words: &[String],
@@ -228,7 +228,7 @@ fn opened<'a, R: AllocGlobal + Files<File = File>>(
 }
 
 // Sends messages that stay, by all senders in turn. Then it sends and receives others, by one sender as many as wait of it, and then by
-// the next: of these each stands on another page than the one before, where there are senders for a page. Each message is sent and
+// the next. Each of these stands on another page than the one before, where there are senders for a page. Each message is sent and
 // received by a transaction of its own, and forced.
 fn exchange<Q: Queue>(queue: &mut Q, course: &Course) -> Option<()> {
     let senders = course.layout.senders();

@@ -10,7 +10,7 @@ use Rattle.rq_pool.specs.Numbered.{number_on}
 use Rattle.rq_store.specs.Opening.{IsCounted}
 use Rattle.rq_restart.specs.Repeating.{IsFirstUncounted}
 
--- each page, but the superblock, has a number with what is told beside its LSN, which is within as many records as those in the page are
+-- Of each page but the superblock its LSN, and what is told beside it, are within so many records exactly where all numbers in it are.
 abbrev pub AreNumbersOf : Sizes → Images → List Ahead → Type 0
 AreNumbersOf z pages ahead =
     (p count : ℕ) → 1 ≤ p → p < page_count z → (number_on ahead p (pages p) ≤ count) ↔ IsCounted z count p (pages p)

@@ -37,11 +37,11 @@ use rq_pool::Pages;
 use std::alloc::Global;
 
 /// Goes through a log as it is read: each record is checked, and what it writes is made where its page is older. None is
-/// kept. Where an older page is wanting, another gives way in a frame: the log is durable then.
+/// kept. Where an older page is wanting, another gives way in a frame. The log is to be durable before.
 ///
 /// # Errors
 /// `Damaged` with the number of the first record that doesn't fit, or where none stands; `DiskRead`, `DiskWrite`; `LogFull`
-/// behind as many records as a log may have; `NoMemory`.
+/// behind as many records as a log may have; `NoMemory`. `Damaged` with the page that a device gave that has lied.
 pub(crate) fn repeat_history<P: PageDevice + Drop, L: LogDevice, B: Level>(
     alloc: Global,
     pages: &mut Pages<P>,

@@ -80,11 +80,12 @@ pub struct Stopped<P, L> {
 /// Opens a store. It reads and checks pages and log, and repeats history on the pages. Operations without an end are undone by
 /// slots, transactions without one by inverses. The records of that are forced, with the Restart record of a new incarnation. All
 /// that is done in so many `frames` beside that of the superblock. Where these are too few for the pages, all that the log's device
-/// reads as is forced first. Pages then give way to others, and are read again. The levels are dropped where it is refused.
+/// reads as is forced first. Pages then give way to others, and are read again. The levels are dropped where it is refused. Both
+/// devices come back as a stop inside the restart may leave them.
 ///
 /// # Errors
 /// `NoMemory`. `DiskRead` or `DiskWrite` where a device fails. `Damaged` where a page or a record breaks the format, or a device
-/// gives another than before. `LogFull` where there is no room for the records.
+/// gives another page or record than before. `LogFull` where there is no room for the records.
 pub fn restart<P: PageDevice + Drop, L: LogDevice + Drop, B: Level>(
     alloc: Global,
     pages: P,
