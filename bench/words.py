@@ -16,8 +16,11 @@ LOG = b"\0\0\0\x09\x07" + (1).to_bytes(8, "big") + b"\0\0\0\x11\x06" + (1).to_by
 # A begin, a send of sender 3 with the tag 7 and seven bytes, and a commit.
 STREAM = b"\0\1\1" + b"\0\x14\2" + (3).to_bytes(4, "big") + (7).to_bytes(8, "big") + b"hello!!" + b"\0\1\6"
 
-# The words, standard input, and what is printed, in this order and in one folder. Two batches of 64 rounds of four senders
-# make 14 calls a round; a message that is sent makes two writes, an end and a commit, one that is received as many; a restart and a checkpoint make one record.
+FEW, EMPTY = "few", "empty"
+
+# The words, standard input, and what is printed, in this order and in one folder, which has two empty ones. Two batches of 64 rounds of
+# four senders make 14 calls a round; a message that is sent makes two writes, an end and a commit, one that is received as many, each
+# a write more beside others of its sender; a restart and a checkpoint make one record.
 ROWS = [
     (["decode", "3"], LOG, "2 records\n"),
     (["feed", "3"], STREAM, "3 requests, tags 7, bytes 7\n"),
@@ -29,6 +32,9 @@ ROWS = [
     (["open", "."], b"", "restarted 2 unfinished 0 lost 0, 82 records\n"),
     (["checkpoint", ".", "3", "1"], b"", "checkpoint 100\n"),
     (["open", "."], b"", "restarted 4 unfinished 0 lost 0, 101 records\n"),
+    (["make", FEW, "1", "20", "10", "8", "200"], b"", "10 messages\n"),
+    (["open", FEW, "8"], b"", "restarted 2 unfinished 0 lost 0, 1087 records\n"),
+    (["open", FEW], b"", "restarted 3 unfinished 0 lost 0, 1088 records\n"),
     (["replace", "."], b"\n\n", "600 zeros\n" * 2),
     (["calls", "1", "2"], b"", "7168 calls\n"),
     (["calls", "4", "2"], b"", "7168 calls\n"),
@@ -47,6 +53,11 @@ REFUSED = [
     (["replace", "none"], b"\n"),
     (["beside", "sent", "1", "1", "begun", "0", "0", "1"], b""),
     (["make", "none", "1", "1", "1"], b""),
+    (["make", EMPTY, "1", "1", "1", "7"], b""),
+    (["make", EMPTY, "1", "1", "1", "8", "-1"], b""),
+    (["make", EMPTY, "1", "1", "1", "8", "15"], b""),
+    (["open", ".", "7"], b""),
+    (["open", ".", "67586"], b""),
     (["checkpoint", "none", "1", "1"], b""),
     (["checkpoint", ".", "1"], b""),
     (["calls", "2", "1"], b""),
@@ -74,6 +85,8 @@ def check(program):
     wanted.append((["open", "none"], b"", 1, "fault open\n"))
     wanted.append((["happenings", "1", "1"], b"restart\nnone\n", 1, "fault line 2\n"))
     with tempfile.TemporaryDirectory() as folder:
+        for name in (FEW, EMPTY):
+            os.mkdir(os.path.join(folder, name))
         for words, stdin, status, output in wanted:
             came = ended(program, words, stdin, folder)
             if came != (status, output):

@@ -1,20 +1,24 @@
 #!/usr/bin/env python3
 """Has `bench open` open stores whose pages or log are damaged, and compares what it says with what docs/FORMATS.md does. Where
-`rt ci` left the program as Rattle's own compiler builds it too, that one opens them as well.
+`rt ci` left the program as Rattle's own compiler builds it too, that one opens them as well. `rqm serve` opens stores with more pages
+in 8 frames, and refuses them alike. What it leaves then, `bench open` refuses for the same page or record. Where the damage is mended,
+it is opened.
 
-    python3 tests/damaged.py [--program PROGRAM]
+    python3 tests/damaged.py [--program PROGRAM] [--rqm PROGRAM]
 """
 import argparse
 import os
 import pathlib
+import re
 import subprocess
 import sys
 import tempfile
 from concurrent.futures import ThreadPoolExecutor
 from itertools import accumulate
 
-from cases import MOST_SECONDS, built_twice
-from inspector import record
+from cases import MOST_SECONDS, built, built_twice
+from inspector import front, record
+from opening import said_of
 
 PAGE, SLOT = 4096, 256
 OPENED, UNREAD = "opened", "fault 3 DiskRead"
@@ -837,6 +841,170 @@ PAGES = [
 ]  # fmt: skip
 
 
+# ---- stores with more pages than frames
+
+
+FRAMES = 8
+# directory pages of a store, in front of one cell page
+WIDE = 10
+# tag pages that a small store is given, which change nothing of the others
+MORE_TAGS = 8
+
+
+def with_more_tags(pages):
+    """A small store whose page 0 is whole, with more pages behind; None of another."""
+    for tags in (0, 1):
+        whole = formatted(tags=tags)
+        if len(pages) == len(whole) and pages[:PAGE] == whole[:PAGE]:
+            more = formatted(tags=tags + MORE_TAGS)
+            return bytes(more[:PAGE] + pages[PAGE:] + more[len(pages) :])
+    return None
+
+
+def wide_log():
+    """A sender of each directory page has a message that is committed. Then comes an operation without an end on three of these pages,
+    and a transaction without one that closes each such sender. So all pages are wanted in turn. Those that are undone last stand in no
+    frame."""
+    records, cells = [BEGUN], 1 + WIDE
+    for at in range(WIDE):
+        sender, txn, address = 15 * at, at + 1, 16 * cells + at + 1
+        held = group(1, 0, address, address, sender=sender)
+        records += [write(1, cells, at + 1, FREE, cell(1, sender=sender), txn), write(1, at + 1, 1, group(sender=sender), held, txn)]
+        records += [end(1, sent(sender, 1), txn=txn), record(6, [1, txn])]
+    records += [write(1, at + 1, 2, group(sender=15 * at + 1), closed(0, 0, 0, 0, 15 * at + 1), WIDE + 1) for at in range(3)]
+    for at in range(WIDE):
+        sender, address = 15 * at, 16 * cells + at + 1
+        numbers = 1, 0, address, address, sender
+        records += [write(at + 1, at + 1, 1, group(*numbers), closed(*numbers), WIDE + 2), end(at + 1, closing(sender), txn=WIDE + 2)]
+    return records
+
+
+def wide_stores():
+    """Pages and log of a whole store, and the same with damage."""
+    pages, records = formatted(WIDE), wide_log()
+    for at, each in enumerate(records):
+        no_kind = each[:4] + b"\12" + each[5:]
+        # of a slot write another byte stands there before, and of a close another sender is told
+        other = each[:40] + bytes([each[40] ^ 1]) + each[41:] if len(each) == 546 else each[:-1] + bytes([each[-1] ^ 1])
+        for bad in (no_kind, other):
+            yield pages, records, pages, [*records[:at], bad, *records[at + 1 :]]
+    for page in range(1, WIDE + 1):
+        for place, byte in ((12, 3), (5, 1)):  # another kind, and a number beyond the log
+            odd = bytearray(pages)
+            odd[page * PAGE + place] = byte
+            yield pages, records, odd, records
+        odd = bytearray(pages)  # a message that waits in no cell
+        put(odd, page, 15, group(1, sender=15 * page - 1), 0)
+        yield pages, records, odd, records
+
+
+class Few:
+    """Openings in few frames by `rqm`, of what is then told by `bench`."""
+
+    def __init__(self, rqm, bench):
+        self.rqm, self.bench = rqm, bench
+        self.written = self.longer = 0  # how many stores were refused with other pages, and with a longer log
+
+    def serve(self, folder):
+        """What is told of its opening: the report of one that is made, or what is printed of another."""
+        command = [self.rqm, "serve", str(folder), "--port", "0", "--workers", "1", "--frames", str(FRAMES), "--until-input-ends"]
+        ran = subprocess.run(command, input=b"", capture_output=True, timeout=MOST_SECONDS)
+        found = re.search(rb"incarnation ([0-9]+), unfinished ([0-9]+), lost ([0-9]+), ", ran.stderr)
+        if ran.returncode == 0 and ran.stdout.startswith(b"listening ") and found:
+            return "restarted {} unfinished {} lost {}".format(*map(int, found.groups()))
+        return ran.stdout.decode(errors="backslashreplace").rstrip("\n") if ran.returncode == 1 else f"status {ran.returncode}"
+
+    def fault_of_opening(self, folder, pages, log):
+        """What is wrong with what is told of a store, and with what is left of it; None where nothing is."""
+        said, made, left = said_of(pages, log)
+        told = self.serve(folder)
+        if told != ("fault 16 Damaged" if said.startswith("damaged ") else said):
+            return f"{told!r}, and not {said!r}"
+        pages_left, log_left = (folder / "pages").read_bytes(), (folder / "log").read_bytes()
+        if not are_explained(pages, pages_left, log_left):
+            return "no beginning of the log makes its pages"
+        if made:
+            return None if log_left == left else "its log has other records behind"
+        if not log_left.startswith(log):
+            return "its log has changed"
+        self.written += pages_left != pages
+        self.longer += log_left != log
+        again = subprocess.run([self.bench, "open", str(folder)], capture_output=True, timeout=MOST_SECONDS)
+        told = again.stdout.decode(errors="backslashreplace").rstrip("\n")
+        return None if (told, again.returncode) == (said, 1) else f"then {told!r} and {again.returncode}, and not {said!r}"
+
+    def fault(self, store):
+        """The same of a store that is whole, or of one that is damaged and is then mended."""
+        name, pages, log, whole, whole_log = store
+        with tempfile.TemporaryDirectory() as top:
+            folder = pathlib.Path(top)
+            put_files(folder, pages, log)
+            wrong = self.fault_of_opening(folder, pages, log)
+            if wrong or whole is None:
+                return wrong and f"{name}, in {FRAMES} frames: {wrong}"
+            pages = mended((folder / "pages").read_bytes(), pages, whole)
+            log = mended((folder / "log").read_bytes(), log, whole_log)
+            put_files(folder, pages, log)
+            made, wanted = said_of(pages, log)[1], said_of(whole, whole_log)[1]
+            wrong = self.fault_of_opening(folder, pages, log)
+            if wrong or not made or made.pages.slots != wanted.pages.slots:
+                return f"{name}, in {FRAMES} frames, mended: {wrong or 'it holds something else'}"
+        return None
+
+
+def put_files(folder, pages, log):
+    (folder / "pages").write_bytes(pages)
+    (folder / "log").write_bytes(log)
+
+
+def mended(left, damaged, whole):
+    """What was left, with the bytes put back that were damaged."""
+    left = bytearray(left)
+    for at, (bad, good) in enumerate(zip(damaged, whole)):
+        if bad != good:
+            left[at] = good
+    return bytes(left)
+
+
+def are_explained(before, left, log):
+    """Whether each page is as it was, or as some beginning of the log has it."""
+    made, lsn, at = bytearray(before), 0, 0
+    odd = {number for number in range(len(before) // PAGE) if left[number * PAGE :][:PAGE] != before[number * PAGE :][:PAGE]}
+    while odd and at < len(log) and (found := front(log, at)):
+        name, numbers, end_of_record = found
+        lsn = numbers[0] + 1 if name == "base" else lsn + 1
+        if name in ("page-op", "page-undo") and numbers[-2] in odd:
+            page, slot = numbers[-2:]
+            if int.from_bytes(made[page * PAGE :][:8], "big") < lsn:
+                put(made, page, slot, log[end_of_record - SLOT : end_of_record], lsn)
+            if made[page * PAGE :][:PAGE] == left[page * PAGE :][:PAGE]:
+                odd.discard(page)
+        at = end_of_record
+    return not odd and len(left) == len(before)
+
+
+def stores_for_few():
+    """A name, pages and a log, and what these are where they are mended."""
+    for name, pages, log, _ in rows():
+        more = with_more_tags(pages)
+        if more:
+            yield name, more, log, None, None
+    yield "a wide store", bytes(formatted(WIDE)), b"".join(wide_log()), None, None
+    for at, (whole, whole_log, pages, log) in enumerate(wide_stores()):
+        yield f"wide stores, {at}", bytes(pages), b"".join(log), bytes(whole), b"".join(whole_log)
+
+
+def run_in_few(rqm, bench):
+    """Opens all by `rqm` in few frames; whether each comes to what it should, and enough were written to before they were refused."""
+    stores, few = list(stores_for_few()), Few(rqm, bench)
+    with ThreadPoolExecutor(os.cpu_count()) as pool:
+        faults = [each for each in pool.map(few.fault, stores) if each]
+    print("".join(f"{each}\n" for each in faults), end="")
+    print(f"{len(stores) - len(faults)} of {len(stores)} stores are opened or refused as they should in {FRAMES} frames")
+    print(f"    {few.written} were refused with other pages, {few.longer} of them with a longer log")
+    return not faults and few.written > 50 and few.longer > 10
+
+
 # ---- runs
 
 
@@ -896,7 +1064,11 @@ def run(program):
 def main():
     words = argparse.ArgumentParser(description="Has bench open stores that are damaged.")
     words.add_argument("--program", help="a program that was built elsewhere")
-    ran = [run(program) for program in built_twice(words.parse_args().program, "bench")]
+    words.add_argument("--rqm", help="a program that was built elsewhere")
+    chosen = words.parse_args()
+    programs = built_twice(chosen.program, "bench")
+    ran = [run(program) for program in programs]
+    ran.append(run_in_few(built(chosen.rqm, "rqm"), programs[0]))
     sys.exit(0 if all(ran) else 1)
 
 

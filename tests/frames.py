@@ -5,7 +5,9 @@ one. A call that is refused as DiskRead has changed nothing: made again, it and 
 is refused as DiskWrite stops the store, which a crash and a restart open again, as it was in front of that call. So they do where the
 machine stops at a device call of a start, of an inverse or of a content. A crash that leaves old images of all pages has the restart
 change more pages than it has frames for, so that pages make way for others and are read again. Each of its device calls fails in turn.
-The machine stops at each, and then in the two restarts behind that. So it goes with a list in which frames are wanting for a start.
+The machine stops at each, and then in the two restarts behind that. Every second list leaves an operation and a transaction without an
+end, so that pages also make way for what is undone by pages, and by inverses. How often something is met amid that is counted apart.
+So it goes with a list in which frames are wanting for a start.
 
     python3 tests/frames.py [--program PROGRAM] [--first SEED] [--lists N]
 """
@@ -19,6 +21,7 @@ import sys
 from collections import Counter
 
 from cases import MOST_SECONDS, built, first_difference, shown
+from reference import ALL, Mending
 from world_reference import World
 
 FRAMES = (8, 9, 64)
@@ -31,6 +34,9 @@ SIZES = ((20, 2, 0), (7, 3, 0), (40, 2, 2))
 
 TRANSACTIONS = 20
 
+# How many operations a transaction finishes that is left without its end.
+FINISHED = 8
+
 # A list over ten pages, in 8 frames: two starts are PoolFull. It stands for a seed.
 ROW = "five-senders"
 ROW_SIZES = (5, 5, 0)
@@ -42,6 +48,9 @@ ROW_LINES = [
 # What shows the store behind its last crash.
 LAST = [b"crash 0 -", b"restart", b"content"]
 
+# What is kept of the records of a restart that stops again.
+KEEPS = b"0", b"%d" % ALL, b"0+20", b"1+20"
+
 # Of each page the newest image is left, or the synced one.
 NEWEST, SYNCED = b"-", b",".join([b"0"] * 64)
 
@@ -50,8 +59,11 @@ OLD = b"crash 0 " + SYNCED
 
 # What has to be met, the usual lists taken together, and how often at least.
 WANTED = {
-    "DiskRead": 2200, "DiskWrite": 3000, "ContentRead": 1900, "StartRead": 290, "StartWrite": 190, "UndoRead": 2, "UndoWrite": 2,
-    "OpeningRead": 500, "OpeningWrite": 200, "OpeningStopped": 1400, "OpeningStoppedThrice": 1300, "Stopped": 5000, "PoolFull": 2,
+    "DiskRead": 2200, "DiskWrite": 3000, "ContentRead": 1900, "StartRead": 350, "StartWrite": 250, "UndoRead": 2, "UndoWrite": 2,
+    "OpeningRead": 1850, "OpeningWrite": 420, "OpeningStopped": 4500, "OpeningStoppedThrice": 4300, "Stopped": 4900, "PoolFull": 2,
+    "OpeningUndoesBoth": 27, "UndoingPagesRead": 150, "UndoingPagesWrite": 16, "UndoingPagesStopped": 340,
+    "UndoingPagesStoppedThrice": 330, "UndoingDeedsRead": 55, "UndoingDeedsWrite": 45, "UndoingDeedsStopped": 200,
+    "UndoingDeedsStoppedThrice": 180,
 }  # fmt: skip
 
 
@@ -69,6 +81,8 @@ class Drawing:
             self.transaction()
             if self.random.randrange(3) == 0:
                 self.happen("content")
+        if seed % 2:
+            self.leave()
 
     def happen(self, *words):
         line = b" ".join(word if isinstance(word, bytes) else str(word).encode() for word in words)
@@ -110,6 +124,23 @@ class Drawing:
         self.happen("force")
         return True
 
+    def leave(self):
+        """An operation that is left without its end, and behind it a transaction without one that finishes some, by senders of one
+        directory page after the other. All is forced. What is undone by pages, and then by inverses, was written long before."""
+        unfinished, lost = (self.happen("begin").split()[1] for _ in range(2))
+        while not (said := self.happen("start-send", unfinished, self.sender_of(), 7, b"left")).startswith("started"):
+            pass
+        for _ in range(2):
+            self.happen("step", *said.split()[1:])
+        self.happen("force")
+        finished, pages = 0, itertools.cycle(self.random.sample(range(self.sizes[0]), self.sizes[0]))
+        while finished < FINISHED:
+            finished += self.carry("start-send", lost, self.sender_of(next(pages)), finished, b"lost")
+
+    def sender_of(self, page=None):
+        """A sender, of this directory page or of any."""
+        return self.random.randrange(15) + 15 * (self.random.randrange(self.sizes[0]) if page is None else page)
+
     def abort(self, txn):
         self.happen("start-abort", txn)
         while self.carry("undo-next", txn):
@@ -145,6 +176,13 @@ def kind_of(line, is_read):
     return part + ("Read" if is_read else "Write")
 
 
+def kinds_of_opening(restarts):
+    """What the first of these restarts met, if anything: a read or a write that failed, or a stop, which the next ones may meet too."""
+    if restarts[0].startswith(b"crashed"):
+        return ["Stopped", "StoppedThrice"] if all(said.startswith(b"crashed") for said in restarts) else ["Stopped"]
+    return {b"not-opened 3 DiskRead": ["Read"], b"not-opened 15 DiskWrite": ["Write"]}.get(restarts[0], [])
+
+
 class Failing:
     """A list whose device calls fail in turn."""
 
@@ -157,10 +195,19 @@ class Failing:
         self.random = random.Random(seed)
         self.met = Counter({"PoolFull": self.wanted.count(b"refused 14 PoolFull")})
         self.goes_on = False  # some call of the list met the last failure
+        self.fronts = {}  # what the list prints up to a line, by its place
+        self.left = {}  # how many records a stop at a device call of the restart leaves, by its number
+        self.stood = []  # the numbers of these calls, and the kinds of what was met there
         self.name = f"seed {seed}, {frames} frames"
 
     def printed_by(self, lines):
         return printed_by(lines, self.sizes, self.frames)
+
+    def before(self, at):
+        """What is printed where the list goes up to this line, with what shows the store behind it."""
+        if at not in self.fronts:
+            self.fronts[at] = self.printed_by(self.lines[:at] + LAST)
+        return self.fronts[at]
 
     def told(self, lines):
         return told_by(self.program, lines, self.sizes, self.frames)
@@ -179,7 +226,7 @@ class Failing:
         """What is wrong where the machine stops at a device call that makes pages be read, or make way; None where nothing is."""
         for at, line in enumerate(self.lines):
             if line.startswith((b"start-", b"undo-next", b"content")):
-                wanted = self.printed_by(self.lines[:at] + LAST)[-1]
+                wanted = self.before(at)[-1]
                 wrong = self.fault_of_stop(at, NEWEST, wanted) or self.fault_of_stop(at, SYNCED, wanted)
                 if wrong:
                     return wrong
@@ -198,20 +245,35 @@ class Failing:
 
     def fault_of_opening(self):
         """What is wrong where a device call of the restart behind the list fails, or the machine stops there; None where nothing is."""
-        for name, images in (("fail", b""), ("stop", NEWEST), ("stop", SYNCED)):
+        for name, images in (("stop", NEWEST), ("stop", SYNCED), ("fail", b"")):
             number, wrong, self.goes_on = 1, None, True
             while self.goes_on:
                 wrong = self.fault_at(name, images, number)
                 if wrong:
                     return wrong
                 number += 1
+        self.count_undoing()
         return None
+
+    def count_undoing(self):
+        """Counts what was met at the calls amid what the restart undoes. They come behind a force of records that it made, and before one
+        but the last, by how many the log held behind a stop there that kept what is forced."""
+        world = World(*self.sizes)
+        for line in self.lines + [OLD]:
+            world.happen(line)
+        by_pages = sum(len(writes) + 1 for writes in Mending(world.store).open_writes.values())
+        before, most = len(world.store.devices.records), max(self.left.values())
+        for number, kinds in self.stood:
+            made = self.left[number] - before
+            if 0 < made < most - before:
+                self.met.update(("UndoingPages" if made < by_pages else "UndoingDeeds") + kind for kind in kinds)
 
     def fault_at(self, name, images, number):
         """The same of one device call. Behind the last one the store opens at once. Where the machine stops, it does so again at calls of
-        the two restarts behind that, which are drawn."""
+        the two restarts behind that, which are drawn, with what is kept of their records."""
         calls = [number, *(self.random.randrange(1, number + 1) for _ in range(2))]
-        stops = [b"restart-stop %d 0 " % call + images for call in calls]
+        keeps = [b"0", *(self.random.choice(KEEPS) for _ in range(2))]
+        stops = [b"restart-stop %d %s " % each + images for each in zip(calls, keeps)]
         spoiled = [b"fail %d" % number, b"restart"] if name == "fail" else stops
         told = self.told(self.lines + [OLD] + spoiled + [b"fail 0", b"restart", b"content"])
         restarts = told[-4:-3] if name == "fail" else told[-6:-3]
@@ -220,13 +282,15 @@ class Failing:
         is_open = any(said.startswith(b"restarted") for said in restarts)
         wanted = (b"running" if is_open else b"restarted", self.wanted[-1])
         what = f"{self.name}, {name} {' '.join(map(str, calls))} of the restart"
-        self.met["OpeningStoppedThrice"] += len(restarts) == 3 and all(said.startswith(b"crashed") for said in restarts)
-        if before == b"not-opened 15 DiskWrite" or before.startswith(b"crashed"):
-            self.met["OpeningStopped" if name == "stop" else "OpeningWrite"] += 1
-        elif before == b"not-opened 3 DiskRead":
-            self.met["OpeningRead"] += 1
-        elif self.goes_on:
+        kinds = kinds_of_opening(restarts)
+        if self.goes_on and not kinds:
             return differs([before], [b"restarted"], what)
+        self.met.update("Opening" + kind for kind in kinds)
+        self.met["OpeningUndoesBoth"] += before.startswith(b"restarted 2 1 1 ")
+        if kinds:
+            self.stood.append((number, kinds))
+        if "Stopped" in kinds:
+            self.left[number] = int(before.split(b" ")[1])
         return differs([opened.split(b" ")[0], content], list(wanted), what)
 
     def fault_of(self, number):
@@ -246,7 +310,7 @@ class Failing:
         if said != b"refused 15 DiskWrite":
             return differs([said], [wanted[at]], what)
         self.met.update(["DiskWrite", kind_of(lines[at], False)])
-        before = self.printed_by([self.lines[0]] + lines[2:at] + LAST)
+        before = self.before(at - 1)
         behind = [b"refused 2 Failed"]
         lines = lines[: at + 1] + [b"force"] + LAST
         return differs(self.told(lines), [wanted[0], b"nothing"] + before[1 : at - 1] + [said] + behind + before[at - 1 :], what)

@@ -632,6 +632,23 @@ class Store:
             self.devices.stopping = 0
         return report
 
+    def restart_cut_off(self, left, places):
+        """The same in fewer frames than pages, where the program chooses which device calls it makes. So many records are left, if they
+        may be; else those that were there before."""
+        before, met, is_cut = len(self.devices.records), Counter(self.met), self.is_cut
+        self.restart()
+        made = self.devices.records[before:]
+        left = left if before <= left <= before + len(made) else before
+        del self.devices.records[left:]
+        self.devices.handed = self.devices.forced = left
+        self.met.clear()
+        self.met.update(met)
+        self.lose(ALL, 0, places)
+        self.is_cut = is_cut
+        self.met["StoppedInFew"] += 1
+        self.count_stop(made, left - before)
+        return left
+
     def count_stop(self, made, kept):
         """What a restart did, and was about, when it was stopped behind so many of its records."""
         if not 0 < kept < len(made):

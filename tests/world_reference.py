@@ -43,10 +43,14 @@ class World:
         self.met = self.store.met
         self.printed = []
         self.numbers = {}  # transaction and LSN of the commit that a happening answered, by its number from 1
+        self.told = b""  # what the program printed of the happening
         self.row = 0  # how many restarts were stopped one after the other, each with some of its records made
 
-    def happen(self, line, picked=None):
-        """What the happening comes to. A receive of any group takes from the sender picked, where it may."""
+    def happen(self, line, picked=None, told=b""):
+        """What the happening comes to. A receive of any group takes from the sender picked, where it may. Where frames are fewer
+        than pages, a page that is told to have no change went out before, if it may have. A restart that is stopped leaves as many
+        records as it told, if it may."""
+        self.told = told
         before = len(self.store.devices.records)
         was_idle = self.store.has_idle_beside() if line.startswith(b"restart-stop") else False
         was_aborting = any(row.aborting for row in self.store.rows.values())
@@ -107,6 +111,11 @@ class World:
         return self.opened(lambda: self.store.restart())
 
     def restart_stop_(self, n, keep, images):
+        if self.store.lacks_frames():
+            if self.told.startswith(b"restarted"):
+                return self.restart_()
+            left = int(self.told.split(b" ")[1]) if self.told.startswith(b"crashed") else 0
+            return self.opened(lambda: self.store.restart_cut_off(left, choice_of(keep, images)[2]))
         return self.opened(lambda: self.store.restart_stopped(int(n), *choice_of(keep, images)))
 
     def opened(self, restart):
@@ -140,6 +149,8 @@ class World:
             words = [tuple(words)]
         if name == b"start-receive":
             words.append(picked)
+        if name == b"write" and self.told == b"not-written":
+            self.store.has_gone_out(*words)
         call = {b"write": "write_page", b"last": "last_tag", b"tag": "client_tag"}.get(name, name.decode().replace("-", "_"))
         try:
             came = self.store.call(call, *words)
@@ -239,8 +250,8 @@ def picked_at(lines, told, at):
 
 
 def printed_by(lines, sizes, told=()):
-    """What all happenings come to. The lines told say which group a receive takes from."""
+    """What all happenings come to. The lines told say which group a receive takes from, and what the program chose in few frames."""
     world = World(*sizes)
     for at, line in enumerate(lines):
-        world.happen(line, picked_at(lines, told, at))
+        world.happen(line, picked_at(lines, told, at), told[at] if at < len(told) else b"")
     return world.printed

@@ -53,14 +53,15 @@ WANTED = {
     "MigrationFailedInReplace": 8, "MigrationFailedInSuperblock": 9, "MigrationFailedInLastSync": 12,
     "MigrationStoppedInTags": 12, "MigrationStoppedInForce": 12, "MigrationStoppedInWrite": 4, "MigrationStoppedInSync": 7,
     "MigrationStoppedInReplace": 9, "MigrationStoppedInSuperblock": 10, "MigrationStoppedInLastSync": 10,
+    "PoolFull": 2400, "StoppedInFew": 480,
 }  # fmt: skip
 
 LENGTH = 160
 
 
 def sizes_of(seed):
-    """Directory pages, cell pages, tag pages and frames of the store of a seed. There is a frame for each page: the calls of a device that
-    are made for others no reference counts."""
+    """Directory pages, cell pages, tag pages and frames of the store of a seed. There is a frame for each page here: the calls of a device
+    that are made for others no reference counts."""
     pages = {0: (2, 2, 0), 5: (1, 2, 1), 7: (3, 2, 0), 8: (1, 1, 2)}.get(seed % 9 if seed % 3 else 0, (1, 1, 0))
     return *pages, (0, 8, 9, 64)[seed // 9 % 4]
 
@@ -242,8 +243,13 @@ def calls_of(store, call):
     return store.calls_of_checkpoint() if call == ("checkpoint",) else store.calls_of_migration(min(call[1], 3))
 
 
+# In few frames a restart makes about so many device calls more than in frames enough.
+WAYS = 20
+
+
 class Calls(courses.Drawing):
-    """A course of tests/courses.py, call by call: receives and closes are under way beside others, too."""
+    """A course of tests/courses.py, call by call: receives and closes are under way beside others, too. Some run in fewer frames than
+    pages. There no device call fails, and the machine stops in restarts alone, since the program chooses which calls it makes."""
 
     NAMES = {"open-send": "start-send", "send": "start-send", "recv": "start-receive", "recv-from": "start-receive-from",
              "close": "start-close", "mark": "start-mark", "abort": "start-abort", "undo": "undo-next", "dump": "content"}  # fmt: skip
@@ -251,11 +257,6 @@ class Calls(courses.Drawing):
     def __init__(self, seed, met):
         super().__init__(seed, met, World)
         self.happen("restart")
-
-    def sizes_of(self, seed):
-        """There is a frame for each page."""
-        *pages, frames = courses.sizes_of(seed)
-        return *pages, frames and max(frames, sum(pages))
 
     @property
     def ended(self):
@@ -275,12 +276,14 @@ class Calls(courses.Drawing):
             return self.happen("fail", self.random.randrange(1, 9))
         if name == "crash":
             return self.happen("crash", *self.left(words))
-        if name in ("checkpoint", "migrate") and self.is_first_of(4):
+        if name in ("checkpoint", "migrate") and not self.store.lacks_frames() and self.is_first_of(4):
             calls, keep = calls_of(self.store, (name, *words)), self.random.choice([0, 2, 5, "all"])
             left = self.left([keep, *["old"] * self.random.randrange(2)])
             return self.happen("stop-in", self.random.randrange(calls + 1), *left, name, *words)
         if name == "restart" and words:
             append = self.store.reads_of_restart() + (2 if self.store.devices.torn else 1)
+            if self.store.lacks_frames():
+                return self.happen("restart-stop", self.random.randrange(1, append + WAYS), words[0], self.images(self.is_first_of(2)))
             return self.happen("restart-stop", append + self.random.randrange(2), words[0], "-")
         if name == "force" and self.is_first_of(4):
             self.happen("hand-over")
@@ -293,8 +296,8 @@ class Calls(courses.Drawing):
         return str(words[0]).replace("all", str(ALL)), self.images(len(words) > 1)
 
     def images(self, is_old):
-        """The synced image of each page, or the newest, or any."""
-        if self.is_first_of(3):
+        """The synced image of each page, or the newest, or any. In few frames the program writes others between these."""
+        if not self.store.lacks_frames() and self.is_first_of(3):
             return ",".join(str(self.random.choice([ALL, 0, 1, 2])) for _ in self.store.devices.pages)
         return ",".join("0" for _ in self.store.devices.pages) if is_old else "-"
 

@@ -5,7 +5,7 @@ mod reading;
 
 use crate::happenings::printing::print_entry;
 use crate::happenings::reading::{List, read_list};
-use crate::words::{input, number};
+use crate::words::{frames_at, input, number};
 use rq_core::happening::{Entry, Happening};
 use rq_core::world::{RunResult, World};
 use rq_levels::sets_of_levels;
@@ -23,7 +23,7 @@ use std::io::Write;
 /// Where the words name no store, memory is wanting, or input or output fails. Where a line is no happening it is named, and nothing
 /// happens.
 pub fn run<R: Print + Input + AllocGlobal>(rt: &R, words: &[String]) -> io::Result<()> {
-    let (Some(layout), Some(frames)) = (layout_of(words), frames_of(words)) else {
+    let (Some(layout), Some(frames)) = (layout_of(words), frames_at(words, 4)) else {
         return Err(io::ErrorKind::InvalidInput.into());
     };
     let lines = input(rt)?;
@@ -47,14 +47,6 @@ fn layout_of(words: &[String]) -> Option<Layout> {
         _ => return None,
     };
     Layout::new(number(words, 1)?, number(words, 2)?, tags)
-}
-
-// In how many frames it is opened; none where the words say too few or too many.
-fn frames_of(words: &[String]) -> Option<FrameCount> {
-    if words.len() < 5 {
-        return Some(FrameCount::most());
-    }
-    FrameCount::new(number(words, 4)?)
 }
 
 fn entries_of(

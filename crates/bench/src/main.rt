@@ -7,8 +7,8 @@
 //! | `append FILE RECORDS` | appends to a log in a file |
 //! | `replace FOLDER` | replaces the log of a store in a folder, once for each line of standard input |
 //! | `beside KIND DIRECTORY CELLS OTHER OPEN MESSAGES TRANSACTIONS` | goes through transactions beside others that stay open |
-//! | `make FOLDER DIRECTORY CELLS MESSAGES` | makes a store in a folder |
-//! | `open FOLDER` | opens it, or says why not |
+//! | `make FOLDER DIRECTORY CELLS MESSAGES [FRAMES [WAITING]]` | makes a store in a folder |
+//! | `open FOLDER [FRAMES]` | opens it, or says why not |
 //! | `checkpoint FOLDER SENT RECEIVED` | opens it, sends messages, receives some of the first sender, and makes its log one record |
 //! | `calls THREADS BATCHES` | makes calls by one thread or by four |
 //! | `happenings DIRECTORY CELLS [TAGS [FRAMES]]` | lets what standard input says happen to a store in memory |

@@ -1,5 +1,6 @@
 //! The words of the process, behind its own name.
 use rq_page::layout::Layout;
+use rq_pool::frame_count::FrameCount;
 use std::io::Read;
 use std::rt::Env;
 use std::{env, io};
@@ -70,6 +71,15 @@ pub fn sizes(words: &[String], place: usize) -> Option<Layout> {
         number(words, place.checked_add(1)?)?,
         0,
     )
+}
+
+/// In how many frames a store is opened: as the word at a place says, or as many as there may be where none stands there. None where
+/// it says too few or too many.
+pub fn frames_at(words: &[String], place: usize) -> Option<FrameCount> {
+    if words.len() <= place {
+        return Some(FrameCount::most());
+    }
+    FrameCount::new(number(words, place)?)
 }
 
 /// All of standard input.

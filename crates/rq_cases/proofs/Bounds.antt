@@ -474,6 +474,7 @@ module _ (n : ℕ) (pages : MemPages) (log : MemLog) (h : Hold pages formatted_p
           record { same = refl; honest = λ h. h; crash = λ p c may. may; time = record { later = omega arith; nothing_else = λ t c before since. inl since; keeps = λ t c before past. past } },
           λ other. only_read log,
           λ honest. weaker mem_log log log (mem_log.may_leave log) (λ c. mem_log.may_leave log c ⊎ IsBegunFrom mem_pages mem_log pages log pages c) (only_read log).moments (λ c may. inl may),
+          refl,
         );
         told = λ other honest older spelled ends. record { now = older; more = ([], refl); told = spelled; is = ends; first = inl ([], sym (append-nil (mem_log.seen log))) };
         unread = λ honest none. only_read log;

@@ -14,23 +14,24 @@ ghost use Rattle.rq_level.specs.Meaning.{AppliesOnce, redo_of};
 ghost use Rattle.rq_pool.specs.Pooled.{IsPool, image_at, is_changed};
 ghost use Rattle.rq_pool.specs.Indexed.{TellsClosed};
 
+pub mod ahead;
 mod fetching;
 mod fixing;
 pub mod formatting;
 pub mod frame_count;
 mod frames;
-mod greatest;
 mod growing;
 mod notes;
 mod reading;
 pub mod table;
 mod writing;
 
+use crate::ahead::Ahead;
 use crate::frame_count::FrameCount;
 use crate::frames::{redo_frame, write_slot};
 use crate::notes::{note_cell, note_group};
 use crate::reading::{read_frames, read_superblock};
-use crate::table::{Place, lsn_of_page, mark, set_image, was_changed};
+use crate::table::{HalvedLsn, Standing, lsn_of_page, mark, set_image, was_changed};
 use crate::writing::write;
 use rq_bitset::Index;
 use rq_disk::{PAGE, PageDevice};
@@ -52,11 +53,9 @@ pub struct Entry {
     /// Its image, as contracts alone see it.
     pub image: Snapshot<Page>,
     /// The LSN of its image.
-    pub lsn: Lsn,
-    /// Whether it was changed since it was read or written.
-    pub changed: bool,
-    /// The frame in which it stands.
-    pub place: Place,
+    pub lsn: HalvedLsn,
+    /// The frame in which it stands, and whether it was changed since it was read or written.
+    pub standing: Standing,
     ghost stamp: { lsn ≡ lsn_of image.value },
 }
 
@@ -142,7 +141,7 @@ impl<P: PageDevice + Drop> Pages<P> {
     ghost use Rattle.rq_pool.specs.Reading.{ArePages, AreSeen, OnlyRead, StopsFor, device_of};
 
     /// Reads every page, and checks each as it is read: the superblock, then each page's header and slots. The first stand in so many
-    /// frames beside that of the superblock, and the others in none. Gives the number of each page, too.
+    /// frames beside that of the superblock, and the others in none. Gives the pages, too, of which a slot counts more than the LSN.
     ///
     /// # Errors
     /// `DiskRead`; `Damaged` with the number of the first page that is none of a store's; `NoMemory`, where the superblock
@@ -151,7 +150,7 @@ impl<P: PageDevice + Drop> Pages<P> {
         alloc: Global,
         mut device: P,
         frames: FrameCount,
-    ) -> Result<(Pages<P>, Vec<u64>), RefusedPages<P>>
+    ) -> Result<(Pages<P>, Vec<Ahead>), RefusedPages<P>>
         ensures pages { IfOk result (λ read. ArePages read.0.sizes read.0.images) }
         ensures seen { IfOk result (λ read. P.honest read.0.device
             → AreSeen (P.seen device) read.0.images (page_count read.0.sizes)) }
@@ -169,7 +168,7 @@ impl<P: PageDevice + Drop> Pages<P> {
             Err(refusal) => return Err(RefusedPages { refusal, device }),
         };
         match read_frames(alloc, &mut device, &layout, superblock, frames.count + 1) {
-            Ok((entries, frames, free, closed, numbers)) => {
+            Ok((entries, frames, free, closed, ahead)) => {
                 let pages = Pages {
                     device,
                     layout,
@@ -181,7 +180,7 @@ impl<P: PageDevice + Drop> Pages<P> {
                     free,
                     closed,
                 };
-                Ok((pages, numbers))
+                Ok((pages, ahead))
             }
             Err(refusal) => Err(RefusedPages { refusal, device }),
         }

@@ -14,9 +14,9 @@ ghost use Rattle.rq_pool.specs.Held.{IsFixed};
 ghost use Rattle.rq_pool.specs.Numbered.{AreNumbered};
 ghost use Rattle.rq_pool.specs.Reading.{OnlyRead, IsSuperblock, IsSoundPage, ArePages, AreSeen, StopsFor};
 
-use crate::greatest::greatest_number;
+use crate::ahead::{Ahead, note_ahead};
 use crate::notes::{are_noted, note_page};
-use crate::table::Place;
+use crate::table::{HalvedLsn, Standing};
 use crate::{Entry, Frame};
 use rq_bitset::Index;
 use rq_bytes::equal::are_equal;
@@ -45,14 +45,14 @@ pub(crate) fn read_superblock<P: PageDevice>(device: &mut P) -> Result<(Page, La
 }
 
 /// Reads the pages behind the first, and checks each as it is read. So many stand in frames, with the first. Beside the table of them and
-/// the frames, which cells are free and which groups are closed, and the number of each page.
+/// the frames, which cells are free and which groups are closed, and which pages have a greater number than their LSN.
 pub(crate) fn read_frames<P: PageDevice>(
     alloc: Global,
     device: &mut P,
     layout: &Layout,
     superblock: Page,
     most: u32,
-) -> Result<(Vec<Entry>, Vec<Frame>, Index, Index, Vec<u64>), Refusal>
+) -> Result<(Vec<Entry>, Vec<Frame>, Index, Index, Vec<Ahead>), Refusal>
     requires superblock { IsSuperblock layout.now superblock }
     requires first { P.honest device.old → superblock ≡ P.seen device.old 0 }
     requires some { 1 ≤ most }
@@ -86,18 +86,16 @@ pub(crate) fn read_frames<P: PageDevice>(
     let Ok(mut closed) = Index::new(alloc, layout.senders()) else {
         return Err(Refusal::NoMemory);
     };
-    let Ok(mut numbers) = vec![in alloc; 0; count as usize] else {
-        return Err(Refusal::NoMemory);
-    };
+    let mut ahead = Vec::new(alloc);
     let mut page = superblock;
     add_page(&mut entries, &mut frames, 0, &page, most)?;
     for number in 1..count {
         read_sound_page(device, layout, number, &mut page)?;
         add_page(&mut entries, &mut frames, number, &page, most)?;
         note_page(&mut free, &mut closed, layout, &page, number);
-        numbers[number as usize] = greatest_number(layout, number, &page);
+        note_ahead(&mut ahead, layout, number, &page)?;
     }
-    Ok((entries, frames, free, closed, numbers))
+    Ok((entries, frames, free, closed, ahead))
 }
 
 /// Reads a page behind the first once more, over another. It has to be one of a store that the indexes tell of.
@@ -158,7 +156,7 @@ fn add_page(
     page: &Page,
     most: u32,
 ) -> Result<(), Refusal>
-    requires { number < 4294967295 }
+    requires { number < 2147483647 }
     ensures images { OnOk result (images_of entries.new.items ≡ images_of entries.old.items ++ page.now ∷ []) }
     ensures changed { OnOk result (changed_of entries.new.items ≡ changed_of entries.old.items ++ false ∷ []) }
     ensures places { OnOk result (places_of entries.new.items ≡ places_of entries.old.items ++ first_place most number ∷ []) }
@@ -169,9 +167,8 @@ fn add_page(
     if number >= most {
         let entry = Entry {
             image: Snapshot::of(page),
-            lsn: page.lsn(),
-            changed: false,
-            place: Place::new(None),
+            lsn: HalvedLsn::new(page.lsn()),
+            standing: Standing::new(None, false),
         };
         return match entries.push(entry) {
             Ok(()) => Ok(()),
@@ -180,9 +177,8 @@ fn add_page(
     }
     let entry = Entry {
         image: Snapshot::of(page),
-        lsn: page.lsn(),
-        changed: false,
-        place: Place::new(Some(number)),
+        lsn: HalvedLsn::new(page.lsn()),
+        standing: Standing::new(Some(number), false),
     };
     let frame = Frame {
         number,

@@ -17,6 +17,7 @@ use Rattle.rq_pool.specs.Fetching.{AreAllFramed, IsReadAsStored}
 use Rattle.rq_pool.specs.Pooled.{Pooled}
 use Rattle.rq_restart.specs.Leaving.{LeavesRepeated, LeavesSound, WasLeftOrRepeated}
 use Rattle.rq_restart.specs.Repeating.{Repeats, paged}
+use Rattle.rq_pool.specs.declared.ahead.Ahead.{Ahead}
 use Rattle.rq_restart.specs.Numbers.{AreNumbersOf}
 use Rattle.rq_restart.specs.Refused.{IsStoppedBehind, WhyShut}
 use Rattle.rq_restart.specs.Restarting.{BeginsAtMost, Continues, IsLogRead, LeavesLog, RefusesLog}
@@ -127,8 +128,8 @@ module _ {P L X : Type 0} (p : page_device.Ghosts P) (l : log_device.Ghosts L) (
   repeated_there : HaveToldTruly p l first mid log.device → Repeats mid.sizes log.records (paged first) (paged mid)
   repeated_there told = subst (λ (y : Sizes). Repeats y log.records (paged first) (paged mid)) (sym went.sizes) ((repeated told).repeated (paged first) refl)
 
-  numbers_there : (numbers : List ℕ) → AreNumbersOf first.sizes (paged first) numbers → AreNumbersOf mid.sizes (paged first) numbers
-  numbers_there numbers = subst (λ (y : Sizes). AreNumbersOf y (paged first) numbers) (sym went.sizes)
+  numbers_there : (ahead : List Ahead) → AreNumbersOf first.sizes (paged first) ahead → AreNumbersOf mid.sizes (paged first) ahead
+  numbers_there ahead = subst (λ (y : Sizes). AreNumbersOf y (paged first) ahead) (sym went.sizes)
 
   pub all_continues : Continues p l first was [] last new.device new.records
   all_continues = continues_then p l first mid was log.device [] log.records r went last new.device new.records (λ told. (repeated told).repeated) since
@@ -140,17 +141,17 @@ module _ {P L X : Type 0} (p : page_device.Ghosts P) (l : log_device.Ghosts L) (
   pub tells_behind : (ended : Type 0) → GoesOnTelling l log.device new.device ended → GoesOnTelling l was new.device ended
   tells_behind ended telling = tells_then l was log.device new.device (Unit {0}) ended tt since.log_honest (tells_read l was log.device (Unit {0}) read.only) telling
 
-  pub repeats_so : (numbers : List ℕ) → AreNumbersOf first.sizes (paged first) numbers
-      → (HaveToldTruly p l mid last new.device → (images : Images) → Repeats mid.sizes log.records images (paged mid) → AreNumbersOf mid.sizes images numbers → HasRepeated mid.sizes log.records new.records images (paged last))
+  pub repeats_so : (ahead : List Ahead) → AreNumbersOf first.sizes (paged first) ahead
+      → (HaveToldTruly p l mid last new.device → (images : Images) → Repeats mid.sizes log.records images (paged mid) → AreNumbersOf mid.sizes images ahead → HasRepeated mid.sizes log.records new.records images (paged last))
       → HaveToldTruly p l first last new.device → HasRepeated first.sizes log.records new.records (paged first) (paged last)
-  repeats_so numbers k checked told = subst (λ (y : Sizes). HasRepeated y log.records new.records (paged first) (paged last)) went.sizes (checked (told_since told) (paged first) (repeated_there (told_read told)) (numbers_there numbers k))
+  repeats_so ahead k checked told = subst (λ (y : Sizes). HasRepeated y log.records new.records (paged first) (paged last)) went.sizes (checked (told_since told) (paged first) (repeated_there (told_read told)) (numbers_there ahead k))
 
-  pub refuses_so : (e : Refusal) (numbers : List ℕ) → AreNumbersOf first.sizes (paged first) numbers → (AreAllFramed mid → LeavesLog l mid.sizes (paged mid) log new) → FailsWith p mid.device last.device e (failures l.faults log.device new.device)
+  pub refuses_so : (e : Refusal) (ahead : List Ahead) → AreNumbersOf first.sizes (paged first) ahead → (AreAllFramed mid → LeavesLog l mid.sizes (paged mid) log new) → FailsWith p mid.device last.device e (failures l.faults log.device new.device)
       → (AreAllFramed mid → (e ≢ why.DiskWrite) → IsRead l log.device new.device)
       → GoesOnTelling l log.device new.device (e ≢ why.DiskWrite)
-      → (HaveToldTruly p l mid last new.device → (images : Images) → Repeats mid.sizes log.records images (paged mid) → AreNumbersOf mid.sizes images numbers → WhyShut mid.sizes log.records images e)
+      → (HaveToldTruly p l mid last new.device → (images : Images) → Repeats mid.sizes log.records images (paged mid) → AreNumbersOf mid.sizes images ahead → WhyShut mid.sizes log.records images e)
       → RefusesLog p l first last.device was new.device e
-  refuses_so e numbers k left fails only telling shut = record {
+  refuses_so e ahead k left fails only telling shut = record {
     honest = λ h. went.pages_honest (since.pages_honest h);
     fails = fails_behind p l first.device mid.device last.device was log.device new.device counted e fails;
     stood = λ framed. (let there = went.stood framed in (
@@ -162,7 +163,7 @@ module _ {P L X : Type 0} (p : page_device.Ghosts P) (l : log_device.Ghosts L) (
       log.records,
       read.are_spelled,
       (λ h. read.reads (since.log_honest h)),
-      subst (λ (y : Sizes). WhyShut y log.records (paged first) e) went.sizes (shut (told_since told) (paged first) (repeated_there (told_read told)) (numbers_there numbers k)),
+      subst (λ (y : Sizes). WhyShut y log.records (paged first) e) went.sizes (shut (told_since told) (paged first) (repeated_there (told_read told)) (numbers_there ahead k)),
     );
     leaves = λ h. record {
       front = log.records;

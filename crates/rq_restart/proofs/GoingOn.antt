@@ -276,7 +276,7 @@ module _ {P L : Type 0} (p : page_device.Ghosts P) (l : log_device.Ghosts L)
   }
 
   -- pages are kept up, and no log was called
-  module _ {X : Type 0} (old new : Pooled P) (log : L) (records : List Record) (r : Result X Refusal) (pool : IsPool old.sizes old.images) (up : IsKeptUp p (2 ^ 64 - 1) old new) (stood : AreAllFramed old → new ≡ old) where
+  module _ {X : Type 0} (old new : Pooled P) (log : L) (records : List Record) (r : Result X Refusal) (pool : IsPool old.sizes old.images) (marks : length old.changed ≡ page_count old.sizes) (up : IsKeptUp p (2 ^ 64 - 1) old new) (stood : AreAllFramed old → new ≡ old) where
     as_they_are : IsReadAsStored p old new → AreMarked old new
     as_they_are = ⊎_elim (λ all. same_marked old new (stood all)) (λ h. kept_marked p (2 ^ 64 - 1) old new up (up.images h))
 
@@ -297,7 +297,7 @@ module _ {P L : Type 0} (p : page_device.Ghosts P) (l : log_device.Ghosts L)
       };
       telling = tells_read l log log _ (still l only_now log);
       behind = ([], refl);
-      written = sound_kept p old.sizes (2 ^ 64 - 1) old new pool up;
+      written = sound_kept p old.sizes (2 ^ 64 - 1) old new pool marks up;
       leaves = λ h first repeated. leaves_kept p old.sizes first records (2 ^ 64 - 1) old new pool repeated up;
     }
 
@@ -323,7 +323,7 @@ module _ {P L : Type 0} (p : page_device.Ghosts P) (l : log_device.Ghosts L)
     });
     telling = way.telling;
     behind = ([], way.records);
-    written = sound_kept p old.sizes (2 ^ 64 - 1) old new way.pool way.kept;
+    written = sound_kept p old.sizes (2 ^ 64 - 1) old new way.pool way.marks way.kept;
     leaves = λ h first repeated. subst (λ (rs : List Record). LeavesRepeated p old.sizes first rs old.device new.device) (sym way.records) (leaves_kept p old.sizes first log.records (2 ^ 64 - 1) old new way.pool repeated way.kept);
   } where
     as_they_were : IsReadAsStored p old new → AreMarked old new

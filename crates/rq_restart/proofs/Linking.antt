@@ -1,5 +1,5 @@
 -- Chains that are not whole once the log is mended.
-use Rattle.std.proofs.Common.{◌≡◌, List, refl}
+use Rattle.std.proofs.Common.{List, refl}
 use Rattle.rq_disk.specs.Device.{Images}
 use Rattle.rq_disk.specs.declared.device.PageDevice.{Ghosts}
 use Rattle.rq_views.specs.Log.{Slots}

@@ -1,5 +1,5 @@
 -- What a restart answers, by what was made of its pages and its log.
-use Rattle.std.proofs.Common.{◌≡◌, ◌⊎◌, ⊎_elim, ℕ, zero, suc, ◌+◌, ◌^◌, ◌<◌, ◌≤◌, ◌++◌, Bool, true, false, List, ◌∷◌, length, min, drop, replicate, inl, inr, refl, sym, ◌∙◌, ap, subst, arith}
+use Rattle.std.proofs.Common.{◌≡◌, ⊎_elim, ℕ, zero, suc, ◌+◌, ◌<◌, ◌≤◌, ◌++◌, Bool, true, false, List, ◌∷◌, length, min, drop, replicate, inl, inr, refl, sym, ◌∙◌, ap, subst, arith}
 use Rattle.rq_model.specs.declared.record.Record.{Record}
 use Rattle.rq_model.specs.declared.refusal.Refusal.{Refusal}
 use Rattle.rq_model.specs.Bases.{earlier, marked}
@@ -16,7 +16,6 @@ use Rattle.rq_log.specs.Logged.{Logged}
 use Rattle.rq_page.specs.Pages.{lsn_of}
 use Rattle.rq_page.specs.Sizes.{Sizes, page_count}
 use Rattle.rq_pool.specs.Fetching.{AreAllFramed}
-use Rattle.rq_pool.specs.Numbered.{AreNumbered}
 use Rattle.rq_pool.specs.Pooled.{IsPool, Pooled, is_changed}
 use Rattle.rq_pool.specs.Reading.{ArePages, AreSeen, IsSuperblock, OnlyRead}
 use Rattle.rq_sound.specs.Sound.{IsSound}
@@ -238,6 +237,7 @@ module _ {P L : Type 0} (p : page_device.Ghosts P) (l : log_device.Ghosts L) (pa
           sizes = λ h. subst (λ z. IsSuperblock z (p.seen pages 0)) (sym o.continues.sizes) (told_on loaded.sizes (p.seen pages) loaded.images pages_sound (seen (o.continues.pages_honest h)));
           checked = λ told. checked (told_truly told);
           marked = newer;
+          told = λ h. (o.read.records, record { honest = h; are_spelled = o.was_read.are_spelled; reads = o.was_read.reads (o.honest h) });
           over = all;
           recovers = λ older r on. recovers engine report o.pool (checked (inr on.honest, r.honest)) older r (all older r) on o.restarted.forced (leaves (on.honest, r.honest));
           running = refl;
@@ -265,7 +265,7 @@ module _ {P L : Type 0} (p : page_device.Ghosts P) (l : log_device.Ghosts L) (pa
       images = loaded.images;
       were = record { sound = pages_sound; seen = λ h. seen (r.honest h) };
       fails = pages_since p pages loaded.device new_pages cause e (failures l.faults log new_log) r.fails;
-      read = λ few. (let stood = r.stood (framed few) in (subst (OnlyRead p pages) (sym stood.0) only, stood.1, begins_from p l pages log loaded pages_sound seen new_pages new_log r.honest stood.2));
+      read = λ few. (let stood = r.stood (framed few) in (subst (OnlyRead p pages) (sym stood.0) only, stood.1, begins_from p l pages log loaded pages_sound seen new_pages new_log r.honest stood.2, ap p.faults stood.0 ∙ cause));
       told = λ other h older told reads. (r.telling h older told reads).reads other;
       unread = r.unread;
       written = sound_since p loaded.sizes pages loaded.device new_pages only r.written;
@@ -287,6 +287,3 @@ module _ {P L : Type 0} (p : page_device.Ghosts P) (l : log_device.Ghosts L) (pa
     -- there is a frame beside that of the superblock
     pub some_frame : length loaded.frames ≡ min (page_count loaded.sizes) (count + 1) → 8 ≤ count → 1 < length loaded.frames
     some_frame every few = (let low = pages_sound.superblock.range.directory_low in omega (arith, every, few, low))
-
-    pub few_numbers : (numbers : List ℕ) → AreNumbered loaded.sizes loaded.images numbers → length numbers < 2 ^ 32
-    few_numbers numbers k = (let each = k.each in let d = pages_sound.superblock.range.directory_high in let n = pages_sound.superblock.range.cells_high in let t = pages_sound.superblock.range.tags_high in omega (arith, each, d, n, t))

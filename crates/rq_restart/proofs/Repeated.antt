@@ -1,5 +1,5 @@
 -- Pages that a log was repeated on.
-use Rattle.std.proofs.Common.{◌≡◌, ℕ, ◌+◌, ◌-◌, ◌≤◌, List, [], ◌∷◌, length, drop, false, Option, Some, None, inl, inr, refl, sym, ◌∙◌, ap, subst, arith}
+use Rattle.std.proofs.Common.{◌≡◌, ◌⊎◌, ℕ, ◌+◌, ◌-◌, ◌≤◌, List, [], ◌∷◌, length, drop, false, Option, Some, None, inl, inr, refl, sym, ◌∙◌, ap, subst, arith}
 use Rattle.std.proofs.lemmas.Bool.{cases_eq, cases_lt}
 use Rattle.std.proofs.lemmas.List.{drop-drop}
 use Rattle.rq_disk.specs.Device.{Images}
@@ -123,6 +123,39 @@ pub repeated_counted : (z : Sizes) (n : ℕ) (log : List Record) (first last : I
 repeated_counted z n [] first last r le all = subst (ArePagesCounted z n) (sym r) all
 repeated_counted z n (records.Base many i ∷ log) first last r le all = counted_within z n log (records.Base many i) r.0 last r.2 (omega (arith, le)) (subst (ArePagesCounted z n) (sym r.1) all)
 repeated_counted z n (q ∷ log) first last r le all = counted_within z n log q r.0 last r.2 (omega (arith, le)) (repeated_counted z n log first r.0 r.1 (omega (arith, le)) all)
+
+-- A page is no older than it was. It is as it was, or has the LSN of one of so many records.
+pub record IsAsOrWithin (n : ℕ) (old new : List ℕ) : Type 0 where
+  pub later : lsn_of old ≤ lsn_of new
+  pub either : (new ≡ old) ⊎ (lsn_of new ≤ n)
+
+as_it_is : (n : ℕ) (old new : List ℕ) → new ≡ old → IsAsOrWithin n old new
+as_it_is n old new same = record { later = (let e = ap lsn_of same in omega (arith, e)); either = inl same }
+
+written_lsn : (w : Option ToldWrite) (n lsn : ℕ) (old new : Images) → lsn ≤ n → Redoes w lsn old new → (p : ℕ) → IsAsOrWithin n (old p) (new p)
+written_lsn None n lsn old new le same p = as_it_is n (old p) (new p) (same p)
+written_lsn (Some w) n lsn old new le made p = elim (cases_eq p w.page) [
+  | inr ne ↦ as_it_is n (old p) (new p) (made.others p ne)
+  | inl here ↦ subst (λ (q : ℕ). IsAsOrWithin n (old q) (new q)) (sym here) (elim (cases_lt (lsn_of (old w.page)) lsn) [
+    | inr ge ↦ as_it_is n (old w.page) (new w.page) (made.kept ge)
+    | inl lt ↦ let e = (made.made lt).lsn in record { later = omega (arith, e, lt); either = inr (omega (arith, e, le)) }
+  ])
+]
+
+then_written : (n : ℕ) (a b c : List ℕ) → IsAsOrWithin n a b → IsAsOrWithin n b c → IsAsOrWithin n a c
+then_written n a b c h k = record {
+  later = (let x = h.later in let y = k.later in omega (arith, x, y));
+  either = elim k.either [
+    | inr within ↦ inr within
+    | inl same ↦ elim h.either [ inl first ↦ inl (same ∙ first) | inr within ↦ inr (let e = ap lsn_of same in omega (arith, e, within)) ]
+  ];
+}
+
+-- so it is of each page that a log was repeated on
+pub repeated_lsn : (z : Sizes) (n : ℕ) (log : List Record) (first last : Images) → Repeats z log first last → length log ≤ n → (p : ℕ) → IsAsOrWithin n (first p) (last p)
+repeated_lsn z n [] first last r le p = as_it_is n (first p) (last p) (ap (λ (f : Images). f p) r)
+repeated_lsn z n (records.Base many i ∷ log) first last r le p = as_it_is n (first p) (last p) (r.2.redone p ∙ ap (λ (f : Images). f p) r.1)
+repeated_lsn z n (q ∷ log) first last r le p = then_written n (first p) (r.0 p) (last p) (repeated_lsn z n log first r.0 r.1 (omega (arith, le)) p) (written_lsn (told_by q) n (length log + 1) r.0 last (omega (arith, le)) r.2.redone p)
 
 -- what was gone through is in order, and was read
 pub repeated_read : (z : Sizes) (log : List Record) (first last : Images) → Repeats z log first last → IsReadInOrder log × FollowAll log

@@ -22,6 +22,7 @@ use Rattle.rq_store.proofs.Bounds.{fits_counted}
 use Rattle.rq_log.proofs.Moments.{weaker}
 use Rattle.rq_restart.specs.Restarting.{AreTold, BeginsAtMost, BeginsFrom, IsBegunFrom, IsBegunOn, OpensLog, WasChecked, WereRead}
 use Rattle.rq_restart.specs.Refused.{BeginsNot, MayBeShut, WhyShut}
+use Rattle.rq_pool.specs.declared.ahead.Ahead.{Ahead}
 use Rattle.rq_restart.specs.Numbers.{AreNumbersOf, NamesFirst}
 use Rattle.rq_restart.specs.Checked.{IsReadAndRedone, WasReadAndRedone}
 use Rattle.rq_restart.specs.RolledBack.{RollbackStops}
@@ -48,9 +49,8 @@ begins_untouched why.LogFull records last before now untouched other b = b.1
 begins_untouched why.DiskWrite records last before now untouched other b = absurd (other refl)
 begins_untouched _ records last before now untouched other b = absurd b
 
-pub names_fail : {P : Type 0} (p : Ghosts P) (old new : P) (z : Sizes) (records : ℕ) (first : Images) (e : Refusal) (log : Failures) → SameFailures (failures p.faults old new) → SameFailures log → NamesFirst z records first e → FailsWith p old new e log
-names_fail p old new z records first (why.Damaged (damage.Page page)) log a b h = (a, b)
-names_fail p old new z records first _ log a b h = absurd h
+pub damage_fails : {P : Type 0} (p : Ghosts P) (old new : P) (page : ℕ) (e : Refusal) (log : Failures) → e ≡ why.Damaged (damage.Page page) → SameFailures (failures p.faults old new) → SameFailures log → FailsWith p old new e log
+damage_fails p old new page e log is a b = subst (λ r. FailsWith p old new r log) (sym is) (a, b)
 
 -- the tables are those over more records, too
 pub told_longer : (z : Sizes) (images : List (List ℕ)) (count more : ℕ) (waiting : List ℕ) (sent : SentBy) → count ≤ more → AreTold z images count waiting sent → AreTold z images more waiting sent
@@ -131,9 +131,11 @@ shut_left z log first (why.Damaged (damage.Page page)) e past h = λ left. elim 
 shut_left z log first _ e past h = absurd h
 
 -- it was gone through, and no number of the pages is beyond it
-pub gone_through : (z : Sizes) (log : List Record) (first last : Images) (n : ℕ) (numbers : List ℕ) → n ≡ length log → ((y : Sizes) (p : Images) → AreNumbersOf y p numbers → ArePagesCounted y n p) → Repeats z log first last → AreNumbersOf z first numbers → IsReadAndRedone z log first last
-gone_through z log first last n numbers e counted before k =
-    let read : ArePagesCounted z (length log) first = subst (λ m. ArePagesCounted z m first) e (counted z first k) in
+pub gone_through : (z : Sizes) (log : List Record) (first last : Images) (n : ℕ) (ahead : List Ahead) → n ≡ length log
+    → ((older : List Record) (images : Images) → n ≡ length older → Repeats z older images last → AreNumbersOf z images ahead → ArePagesCounted z (length older) images)
+    → Repeats z log first last → AreNumbersOf z first ahead → IsReadAndRedone z log first last
+gone_through z log first last n ahead e counted before k =
+    let read : ArePagesCounted z (length log) first = counted log first e before k in
     record { repeated = before; counted_read = read; counted = repeated_counted z (length log) log first last before (omega arith) read }
 
 -- why what had no end was not undone, or was and left chains that are not whole

@@ -1,11 +1,12 @@
 -- What is written of pages over any devices, from call to call: pages of a store alone.
-use Rattle.std.proofs.Common.{◌≡◌, ◌⊎◌, ⊎_elim, ℕ, ◌≤◌, ◌<◌, List, inl, inr, sym, ◌∙◌, ap, subst, arith}
-use Rattle.rq_disk.specs.Device.{Images, Leaves}
+use Rattle.std.proofs.Common.{◌≡◌, ◌⊎◌, ⊎_elim, ℕ, ◌<◌, true, false, List, length, inl, inr, sym, ◌∙◌, ap, subst, arith}
+use Rattle.std.proofs.Math.ListN.{get_or-eq_default}
+use Rattle.std.proofs.lemmas.Bool.{cases_lt, true≢false}
 use Rattle.rq_disk.specs.declared.device.PageDevice.{Ghosts}
 use Rattle.rq_page.specs.Formatted.{IsFormatted}
 use Rattle.rq_page.specs.Sizes.{Sizes, page_count}
 use Rattle.rq_pool.specs.KeptUp.{IsKeptUp, MayBeKept}
-use Rattle.rq_pool.specs.Pooled.{IsPool, Pooled, image_at}
+use Rattle.rq_pool.specs.Pooled.{IsPool, Pooled, image_at, is_changed}
 use Rattle.rq_pool.specs.Reading.{IsSoundPage, OnlyRead}
 use Rattle.rq_pool.proofs.Over.{page_sound}
 use Rattle.rq_restart.specs.Leaving.{IsPageOf, LeavesSound}
@@ -30,8 +31,8 @@ module _ {P : Type 0} (p : Ghosts P) (z : Sizes) where
   })
 
   -- they are kept up, and some written out
-  pub sound_kept : (forced : ℕ) (old new : Pooled P) → IsPool z old.images → IsKeptUp p forced old new → LeavesSound p z old.device new.device
-  sound_kept forced old new pool up = record {
+  pub sound_kept : (forced : ℕ) (old new : Pooled P) → IsPool z old.images → length old.changed ≡ page_count z → IsKeptUp p forced old new → LeavesSound p z old.device new.device
+  sound_kept forced old new pool marks up = record {
     now = λ page c may. there page c (up.crash page c may);
     time = record {
       later = up.time.later;
@@ -39,8 +40,15 @@ module _ {P : Type 0} (p : Ghosts P) (z : Sizes) where
       keeps = up.time.keeps;
     };
   } where
+    marked_within : (page : ℕ) → is_changed old.changed page ≡ true → page < page_count z
+    marked_within page e = elim (cases_lt page (page_count z)) [
+      | inl lt ↦ lt
+      | inr ge ↦ absurd (true≢false (sym e ∙ get_or-eq_default old.changed false (omega (arith, marks, ge))))
+    ]
+
     there : (page : ℕ) (c : List ℕ) → MayBeKept p forced old page c → p.may_be old.device page c ⊎ IsPageOf z page c
     there page c = ⊎_elim (λ was. inl was) (λ f. inr (record {
+      within = marked_within page f.changed;
       superblock = λ first. subst (IsFormatted z 0) (sym (f.is ∙ ap (image_at old.images) first)) pool.superblock;
       sound = λ low high. subst (IsSoundPage z page) (sym f.is) (page_sound z old.images page pool low high);
     }))

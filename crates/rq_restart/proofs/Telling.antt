@@ -1,5 +1,5 @@
 -- What the device of a log tells that is gone on with, from call to call.
-use Rattle.std.proofs.Common.{◌≡◌, ◌⊎◌, ⊎_elim, ℕ, zero, suc, ◌+◌, ◌-◌, ◌≤◌, List, [], ◌∷◌, ◌++◌, drop, take, length, inl, inr, refl, sym, ◌∙◌, ap, subst, arith}
+use Rattle.std.proofs.Common.{◌≡◌, ⊎_elim, ℕ, zero, suc, ◌+◌, ◌-◌, ◌≤◌, List, [], ◌∷◌, ◌++◌, drop, take, inl, inr, refl, sym, ◌∙◌, ap, subst, arith}
 use Rattle.std.proofs.lemmas.List.{append-nil, append_assoc, drop-drop, take-append-drop}
 use Rattle.rq_model.specs.declared.record.Record.{Record}
 use Rattle.rq_model.specs.declared.record.Record.TheVariants.{Base, Restart}
@@ -10,7 +10,7 @@ use Rattle.rq_record.specs.Spelling.{IsRecord}
 use Rattle.rq_log.specs.Crash.{LeavesOnly}
 use Rattle.rq_log.specs.Logged.{Logged, WasLeftOrGoesOn}
 use Rattle.rq_log.specs.Reading.{IsRead}
-use Rattle.rq_log.specs.Spelled.{AreAllSpelled, AreSpelled, EndsWith, EndsWithAll, GoOnTo, GoesOn, spelled, spelled_all}
+use Rattle.rq_log.specs.Spelled.{AreAllSpelled, AreSpelled, EndsWith, EndsWithAll, GoOnTo, GoesOn, spelled}
 use Rattle.rq_log.proofs.Moments.{joined, weaker}
 use Rattle.rq_log.proofs.Parsing.{one_log}
 use Rattle.rq_log.proofs.Runs.{AreAllSpelled-drop, nothing_short}

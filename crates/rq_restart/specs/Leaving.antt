@@ -27,8 +27,9 @@ module _ {P : Type 0} (p : Ghosts P) (z : Sizes) (first : Images) (records : Lis
     pub now : (page : ℕ) (c : List ℕ) → p.may_be new page c → WasLeftOrRepeated page c
     pub time : Elapses (p.moment old) (p.moment new) (p.left_since old) (p.left_since new) (Leaves WasLeftOrRepeated)
 
--- an image of that page of a store of these sizes
+-- an image of that page of a store of these sizes, which has it
 pub record IsPageOf (z : Sizes) (page : ℕ) (c : List ℕ) : Type 0 where
+  pub within : page < page_count z
   pub superblock : page ≡ 0 → IsFormatted z 0 c
   pub sound : 1 ≤ page → page < page_count z → IsSoundPage z page c
 

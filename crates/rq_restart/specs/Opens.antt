@@ -61,6 +61,8 @@ module _ {P L : Type 0} (p : page_device.Ghosts P) (l : log_device.Ghosts L) (pa
     -- what was checked, where what was read is the store's
     pub checked : TellTruly p l pages log count s.state.sizes s.pages s.log
         → WasChecked p l pages log s.state.sizes (paged (pooled s)) s.state.records s.pages s.log
+    -- an honest device told a log, and what was opened over it has its commits
+    pub told : l.honest s.log → (older : List Record) × IsReadAs l log s.log older
     pub over : (older : List Record) → IsReadAs l log s.log older → OpensOver older s report
     pub recovers : (older : List Record) → IsReadAs l log s.log older → IsLeftOn p s.state.sizes pages s.pages older
         → Recovers p pages older s report
@@ -91,7 +93,8 @@ module _ {P L : Type 0} (p : page_device.Ghosts P) (l : log_device.Ghosts L) (pa
         (p.faults new_pages) (l.faults log) (l.faults new_log)
 
   -- Where each pair that a crash might have left is a store, each pair that a crash leaves at any moment is one. Whatever the pages are,
-  -- and in any number of frames: what an honest log told, all that a crash leaves of it at any moment tells, with records behind.
+  -- and in any number of frames: where an honest log told records, a crash at any moment leaves what it might have before, or bytes that
+  -- tell these with records behind.
   pub record KeepsStores (new_pages : P) (new_log : L) : Type 0 where
     pub pages_honest : p.honest new_pages → p.honest pages
     pub kept : l.honest new_log → (older : List Record) → AreSpelled older → EndsWith older (l.seen log)

@@ -70,7 +70,8 @@ module _ {L : Type 0} (g : Ghosts L) where
       × (((front ≡ []) × (new ≡ old)) ⊎ LacksMemory z front mid old new)
 
   -- A log was gone through as it was read, as far as these records: each belonged where it stood and was repeated. Behind
-  -- them no more could be read or kept, or no record stands there, or one that doesn't belong or whose page could not be had.
+  -- them no more could be read or kept, or no record stands there. Or one does that doesn't belong, or whose page could not be had; or
+  -- the log could not be made durable.
   pub record IsStoppedBehind (z : Sizes) (first : Images) (e : Refusal) (old new : L) : Type 0 where
     pub front : List Record
     pub are_spelled : AreSpelled front

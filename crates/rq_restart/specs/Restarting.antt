@@ -40,7 +40,7 @@ use Rattle.rq_restart.specs.Refused.{IsStoppedBehind, WhyShut}
 use Rattle.rq_restart.specs.Leaving.{LeavesRepeated, LeavesSound, WasLeftOrRepeated}
 use Rattle.rq_restart.specs.Standing.{NoneHeld}
 use Rattle.rq_restart.specs.Telling.{GoesOnTelling, TellsBehind, TellsNone}
-use Rattle.rq_restart.specs.Undoing.{FailsWith, HaveBeenHonest, HaveToldTruly, NoneFailed, failures}
+use Rattle.rq_restart.specs.Undoing.{FailsWith, HaveBeenHonest, HaveToldTruly, NoneFailed, SameFailures, failures}
 
 -- Behind the log that was read stand the records by which what has no end is undone, and then one that begins the
 -- incarnation after the last. All are forced.
@@ -245,8 +245,8 @@ module _ {P L : Type 0} (p : page_device.Ghosts P) (l : log_device.Ghosts L) (pa
     pub sound : ArePages z images
     pub seen : p.honest new_pages → AreSeen (p.seen pages) images (page_count z)
 
-  -- What was read of both devices is the store's: that of the log has been honest, and that of the pages too, or so many frames beside that of
-  -- the superblock are enough for them, so that none had to be read again.
+  -- What was read of both devices is the store's. That of the log has been honest. So has that of the pages, or so many frames beside that
+  -- of the superblock were enough that none had to be read again.
   abbrev pub TellTruly : ℕ → Sizes → P → L → Type 0
   TellTruly count z new_pages new_log = ((page_count z ≤ count + 1) ⊎ p.honest new_pages) × l.honest new_log
 
@@ -277,8 +277,8 @@ module _ {P L : Type 0} (p : page_device.Ghosts P) (l : log_device.Ghosts L) (pa
     pub begun : records ≡ next_restart rolled_back ∷ rolled_back
     pub room : length rolled_back < 2 ^ 50
 
-  -- Of each page a crash leaves, now and at any moment, what it might have left before, or an image that the oldest of these records made of
-  -- the pages that were read.
+  -- Of each page a crash leaves, now and at any moment, what it might have left before. Or it leaves an image that the oldest of these
+  -- records made of the pages that were read.
   pub record LeavesPages (new_pages : P) (z : Sizes) (records : List Record) : Type 0 where
     pub images : List (List ℕ)
     pub were : WereRead new_pages z images
@@ -298,16 +298,17 @@ module _ {P L : Type 0} (p : page_device.Ghosts P) (l : log_device.Ghosts L) (pa
     pub read : pages_read.OnlyRead p pages new_pages
     pub same : new_log ≡ log
 
-  -- The pages were all read and are sound, and then this. Where the frames are enough, the pages were only read, and the log too
-  -- unless a device failed in a write. In any number of frames an honest log that told records tells these, with others behind, unless
-  -- a device failed in a write; one that told none was only read. Whatever both devices are, pages of that store alone were written.
+  -- The pages were all read and are sound, and then this. Where the frames are enough, the pages were only read, and none failed to be
+  -- read again. The log was only read, too, unless a device failed in a write. In any number of frames an honest log that told records tells
+  -- these, with others behind, unless a device failed in a write. One that told none was only read. Whatever both devices are, pages of that
+  -- store alone were written.
   pub record IsRefusedOver (count : ℕ) (e : Refusal) (new_pages : P) (new_log : L) : Type 0 where
     pub sizes : Sizes
     pub images : List (List ℕ)
     pub were : WereRead new_pages sizes images
     pub fails : FailsWith p pages new_pages e (failures l.faults log new_log)
     pub read : page_count sizes ≤ count + 1 → pages_read.OnlyRead p pages new_pages × ((e ≢ why.DiskWrite) → IsRead l log new_log)
-        × BeginsFrom new_pages new_log
+        × BeginsFrom new_pages new_log × SameFailures (failures p.faults pages new_pages)
     pub told : (e ≢ why.DiskWrite) → l.honest new_log → (older : List Record) → AreSpelled older → EndsWith older (l.seen log)
         → TellsBehind older (l.seen log) (l.seen new_log)
     pub unread : l.honest new_log → TellsNone l log → IsRead l log new_log

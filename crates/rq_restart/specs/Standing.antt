@@ -64,7 +64,7 @@ module _ {P L : Type 0} (p : page_device.Ghosts P) (l : log_device.Ghosts L) (f 
     pub is : shown before base
     pub ways : (last : List Record) → IsOnItsWay base last → IsRecovering f.sizes f.read last
 
-  -- the same as the log is read, of which so much was, and history repeated: what a crash leaves of the pages fits all of it
+  -- the same while the log is read: what was read of it is repeated on the pages. What a crash leaves of them fits the whole log.
   pub record StandsRead (pages : Pooled P) (reader : LogRead L) : Type 0 where
     pub sizes : pages.sizes ≡ f.sizes
     pub left : IsLeft f.sizes f.images f.read

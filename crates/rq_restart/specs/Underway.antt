@@ -41,7 +41,7 @@ IsLeftOrGoesOn l log z read images bytes = (now : List Record) × IsStore z now 
     × (l.may_leave log bytes ⊎ IsGoneOnWith read (l.seen log) now bytes)
 
 -- A restart on its way over honest devices. At each moment so far each pair that a crash left is such a store. Whatever one leaves of
--- the pages now fits these records, which are those that were read, or plain records behind them, all of them on the log's device.
+-- the pages now fits these records. They are those that were read, with plain records behind, all on the log's device.
 pub record IsOnWay {P L : Type 0} (p : page_device.Ghosts P) (l : log_device.Ghosts L) (pages : P) (log : L) (z : Sizes)
     (read kept : List Record) (now_pages : P) (now_log : L) : Type 0 where
   pub path : Path p l (IsLeftOrGoesOn l log z read) pages log now_pages now_log

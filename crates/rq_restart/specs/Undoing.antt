@@ -35,14 +35,16 @@ pub record Failures : Type 0 where
 abbrev pub failures : {D : Type 0} → (D → ℕ) → D → D → Failures
 failures faults old new = record { before = faults old; now = faults new }
 
+-- it failed no more
 abbrev pub SameFailures : Failures → Type 0
 SameFailures f = f.now ≡ f.before
 
+-- it failed once more
 abbrev pub OneFailure : Failures → Type 0
 OneFailure f = f.now ≡ (f.before + 1) % 2 ^ 64
 
--- A refusal that names a device tells that one of both failed once more, that of the pages in a call that read a page, or wrote one. The
--- others, which tell that neither did, are these.
+-- A refusal that names a device tells that one of both failed once more. That of the pages did so in a read of a page, or a write of
+-- one. The others, which tell that neither did, are these.
 abbrev pub FailsWith : {P : Type 0} → page_device.Ghosts P → (old new : P) → Refusal → (log : Failures) → Type 0
 FailsWith p old new why.DiskRead log = ((page : ℕ) × HasFailed p (Reads page) old new × SameFailures log)
     ⊎ (SameFailures (failures p.faults old new) × OneFailure log)
@@ -53,6 +55,7 @@ FailsWith p old new why.LogFull log = SameFailures (failures p.faults old new) �
 FailsWith p old new (why.Damaged d) log = SameFailures (failures p.faults old new) × SameFailures log
 FailsWith p old new _ log = ⊥
 
+-- neither device failed
 abbrev pub NoneFailed : {P L : Type 0} → page_device.Ghosts P → Ghosts L → P → L → P → L → Type 0
 NoneFailed p l pages log new_pages new_log = SameFailures (failures p.faults pages new_pages) × SameFailures (failures l.faults log new_log)
 
@@ -60,7 +63,7 @@ NoneFailed p l pages log new_pages new_log = SameFailures (failures p.faults pag
 abbrev pub HaveBeenHonest : {P L : Type 0} → page_device.Ghosts P → Ghosts L → P → L → Type 0
 HaveBeenHonest p l pages log = p.honest pages × l.honest log
 
--- what was read is the store's: the log's device has been honest, and that of the pages too, or none of them had to be read again
+-- What was read is the store's. The log's device has been honest; so has that of the pages, or none of them had to be read again.
 abbrev pub HaveToldTruly : {P L : Type 0} → page_device.Ghosts P → Ghosts L → Pooled P → Pooled P → L → Type 0
 HaveToldTruly p l old new log = IsReadAsStored p old new × l.honest log
 
@@ -71,7 +74,7 @@ pub record StaysInFrames {P L : Type 0} (l : Ghosts L) (old : Pooled P) (log : L
   pub read : IsRead l log now
 
 -- Records were read, or made behind a log, and repeated on the pages. For that pages were read, and some gave way to others in frames;
--- no page is fixed that was not. A refusal tells which device failed, if one did. What the log's device told it tells, with records behind.
+-- where no page was fixed, none is. A refusal tells which device failed, if one did. What the log's device told it tells, with records behind.
 pub record GoesOn {P L X : Type 0} (p : page_device.Ghosts P) (l : Ghosts L) (old : Pooled P) (log : L) (records : List Record)
     (result : Result X Refusal) (new : Pooled P) (now : L) (now_records : List Record) : Type 0 where
   pub sizes : new.sizes ≡ old.sizes
@@ -117,16 +120,18 @@ abbrev pub StandsOrIsNewer : {P : Type 0} → Pooled P → ℕ → Record → Ty
 StandsOrIsNewer pages lsn r = (page : ℕ) → IsToBeWritten pages.sizes r page
     → IsFramed pages.frames page ⊎ (lsn ≤ lsn_of (image_at pages.images page))
 
+-- it names a device
 abbrev pub NamesDevice : Refusal → Type 0
 NamesDevice why.DiskRead = Unit {0}
 NamesDevice why.DiskWrite = Unit {0}
 NamesDevice _ = ⊥
 
--- What a call leaves of pages and log that has a page stand in a frame. Nothing happens where it stands in one. Pages are kept up, and
+-- What a call leaves of pages and log that has a page stand in a frame. Nothing happens where each page stands in one. Pages are kept up, and
 -- so is what stood of a store, of which the log is one on its way to be recovered.
 pub record MakesWay {P L : Type 0} (p : page_device.Ghosts P) (l : Ghosts L) (old : Pooled P) (log : Logged L)
     (result : Result Unit Refusal) (new : Pooled P) (now : Logged L) : Type 0 where
   pub pool : IsPool old.sizes old.images
+  pub marks : length old.changed ≡ page_count old.sizes
   pub kept : IsKeptUp p (2 ^ 64 - 1) old new
   pub stood : AreAllFramed old → (new ≡ old) × (now ≡ log)
   pub count : length new.frames ≡ length old.frames

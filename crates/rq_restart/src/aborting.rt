@@ -34,8 +34,8 @@ use rq_planner::Planner;
 use rq_pool::Pages;
 use std::alloc::Global;
 
-/// Undoes the transactions that have no end: those first that have nothing left to be taken back, by rising number, and
-/// then what the others did, the newest of all first, each with its end behind the last that it did. The records of it
+/// Undoes the transactions that have no end: those first that have nothing left to be taken back, by rising number. Then
+/// it undoes what the others did, the newest of all first, each with its end behind the last that it did. The records of it
 /// are made behind the log, of which these are the findings. Where a page is wanting, another gives way in a frame, behind the force
 /// of all records.
 ///

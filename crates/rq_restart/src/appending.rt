@@ -1,9 +1,7 @@
 //! Records that a restart makes behind the log that it read.
-ghost use Rattle.std.specs.Prelude.{◌≡◌, ◌∷◌, ◌+◌, ◌-◌, ◌^◌, ◌<◌, ◌≤◌, IfErr, IfNone, IfSome, IsTrue, OnErr, OnOk, None, false, length};
+ghost use Rattle.std.specs.Prelude.{◌≡◌, ◌∷◌, ◌+◌, ◌-◌, ◌<◌, IfErr, IfNone, IfSome, IsTrue, OnOk, None, false, length};
 ghost use Rattle.rq_log.specs.Spelled.{AreSpelled};
 ghost use Rattle.rq_model.specs.Bases.{is_base};
-ghost use Rattle.rq_page.specs.Sizes.{page_count};
-ghost use Rattle.rq_pool.specs.KeptUp.{IsKeptUp};
 ghost use Rattle.rq_pool.specs.Pooled.{IsPool};
 ghost use Rattle.rq_record.specs.Spelling.{IsInRange};
 ghost use Rattle.rq_store.specs.Fitting.{told_by, image_in};
@@ -45,6 +43,7 @@ pub(crate) fn make_way<P: PageDevice + Drop, L: LogDevice + Drop>(
     ensures stands { OnOk result (StandsToWrite pages.new undo.now) }
     ensures made { MakesWay P.PageDevice L.LogDevice pages.old log.old result pages.new log.new }
 {
+    pages.shows_kept();
     let Some(page) = page_of(&pages.layout(), undo) else {
         return Ok(());
     };

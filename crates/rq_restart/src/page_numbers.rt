@@ -1,25 +1,60 @@
-//! The numbers of pages as they were read: none may be beyond the log, whose length is known once it was gone through.
-ghost use Rattle.std.specs.Prelude.{◌<◌, ◌^◌, IfSome, IfNone, length};
-ghost use Rattle.rq_restart.specs.Numbers.{IsFirstBeyond, NoneBeyond};
+//! The numbers of pages: none may be beyond the log, whose length is known once it was gone through.
+ghost use Rattle.std.specs.Prelude.{◌≡◌, ◌<◌, ℕ, List, IfErr, IfNone, IfSome, OnOk, length};
+ghost use Rattle.rq_disk.specs.Device.{Images};
+ghost use Rattle.rq_model.specs.declared.record.Record.{Record as AnyRecord};
+ghost use Rattle.rq_page.specs.Sizes.{page_count};
+ghost use Rattle.rq_pool.specs.Numbered.{number_in};
+ghost use Rattle.rq_restart.specs.Numbers.{AreNumbersOf, IsFirstBeyond, NamesFirst, NoneBeyond};
+ghost use Rattle.rq_restart.specs.Repeating.{ArePagesCounted, Repeats, paged};
 
-/// The greatest of each page's LSN and the numbers in its slots, by page; 0 of the superblock.
-#[derive(Drop)]
-pub(crate) struct PageNumbers {
-    pub numbers: Vec<u64>,
-    ghost few: { length numbers.items < 2 ^ 32 },
+use rq_disk::PageDevice;
+use rq_model::refusal::{Damage, Refusal};
+use rq_pool::Pages;
+use rq_pool::ahead::Ahead;
+
+/// That no number of the pages as they were read is beyond so many records, which were repeated on them since. Else it is refused
+/// with the first page of which one is. What slots counted beyond their page's LSN, as it was read, is handed in.
+pub(crate) fn check_page_numbers<P: PageDevice>(
+    pages: &Pages<P>,
+    ahead: &[Ahead],
+    records: u64,
+) -> Result<(), Refusal>
+    ensures counted { OnOk result ((log : List AnyRecord) (first : Images) → records ≡ length log
+        → Repeats pages.now.sizes log first (paged pages.now) → AreNumbersOf pages.now.sizes first ahead.now
+        → ArePagesCounted pages.now.sizes (length log) first) }
+    ensures names { IfErr result (λ e. (log : List AnyRecord) (first : Images) → records ≡ length log
+        → Repeats pages.now.sizes log first (paged pages.now) → AreNumbersOf pages.now.sizes first ahead.now
+        → NamesFirst pages.now.sizes (length log) first e) }
+    ensures err { IfErr result (λ e. (page : ℕ) × (e ≡ Refusal.Damaged (Damage.Page page))) }
+{
+    match first_beyond(pages, ahead, records) {
+        Some(page) => Err(Refusal::Damaged(Damage::Page(page))),
+        None => Ok(()),
+    }
 }
 
-impl PageNumbers {
-    /// The first page with a number beyond so many records.
-    pub(crate) fn first_beyond(&self, records: u64) -> Option<u32>
-        ensures some { IfSome result (λ page. IsFirstBeyond records self.now.numbers.items page) }
-        ensures none { IfNone result (NoneBeyond records self.now.numbers.items (length self.now.numbers.items)) }
-    {
-        for page in 1..self.numbers.len() {
-            if self.numbers[page] > records {
-                return Some(page as u32);
-            }
+// The first page with a number beyond so many records.
+fn first_beyond<P: PageDevice>(pages: &Pages<P>, ahead: &[Ahead], records: u64) -> Option<u32>
+    ensures some { IfSome result (λ page. IsFirstBeyond pages.now.sizes records ahead.now (paged pages.now) page) }
+    ensures none { IfNone result (NoneBeyond records ahead.now (paged pages.now) (page_count pages.now.sizes)) }
+{
+    for page in 1..pages.layout().pages() {
+        if pages.lsn(page).max(number_of(ahead, page)) > records {
+            return Some(page);
         }
-        None
     }
+    None
+}
+
+// The greatest number that is told of a page, or 0.
+fn number_of(ahead: &[Ahead], page: u32) -> u64
+    ensures { result ≡ number_in ahead.now page }
+{
+    let mut greatest = 0u64;
+    for place in 0..ahead.len() {
+        if ahead[place].page == page {
+            greatest = greatest.max(ahead[place].number);
+        }
+    }
+    greatest
 }

@@ -1,11 +1,10 @@
 //! Going through a log: each slot write that is not on its page yet is made there.
 ghost use Rattle.std.specs.Prelude.{◌≡◌, ◌↔◌, ◌≤◌, ◌<◌, ◌+◌, ◌-◌, ◌^◌, ◌∷◌, [], List, IsOk, IsTrue, None, false, IfOk, IfErr, OnErr, OnOk, length};
-ghost use Rattle.rq_disk.specs.Device.{Images};
 ghost use Rattle.rq_model.specs.declared.record.Record.{Record as AnyRecord};
 ghost use Rattle.rq_model.specs.Bases.{is_base};
 ghost use Rattle.rq_log.specs.Reading.{EndsShort, IsRead};
 ghost use Rattle.rq_log.specs.Spelled.{spelled};
-ghost use Rattle.rq_page.specs.Sizes.{Sizes, page_count};
+ghost use Rattle.rq_page.specs.Sizes.{page_count};
 ghost use Rattle.rq_page.specs.Pages.{lsn_of, slot_of};
 ghost use Rattle.rq_pool.specs.Fetching.{AreAllFramed};
 ghost use Rattle.rq_pool.specs.Held.{IsFramed};
@@ -16,8 +15,7 @@ ghost use Rattle.rq_store.specs.Fitting.{told_by, image_in};
 ghost use Rattle.rq_analysis.specs.LogTables.{PutsBack};
 ghost use Rattle.rq_analysis.specs.Rules.{CanBeRead, FollowAll, FollowsRules};
 ghost use Rattle.rq_restart.specs.Found.{IsAnalysisOf};
-ghost use Rattle.rq_restart.specs.Numbers.{AreNumbersOf, NamesFirst};
-ghost use Rattle.rq_restart.specs.Repeating.{AreMarked, ArePagesCounted, IsRecordRedone, paged};
+ghost use Rattle.rq_restart.specs.Repeating.{AreMarked, IsRecordRedone, paged};
 ghost use Rattle.rq_restart.specs.Refused.{IsStoppedBehind, NotRepeated};
 ghost use Rattle.rq_restart.specs.Standing.{Found, KeepsStore, NoneHeld, StandsRead};
 ghost use Rattle.rq_restart.specs.Undoing.{GoesOn, HaveBeenHonest, HaveToldTruly, IsDurable, IsRepeatedOn, NamesNoDevice, NotBroughtFor, StandsOrIsNewer};
@@ -25,7 +23,6 @@ ghost use Rattle.rq_restart.specs.Undoing.{GoesOn, HaveBeenHonest, HaveToldTruly
 use crate::again::puts_back;
 use crate::analysis::Analysis;
 use crate::appending::page_of;
-use crate::page_numbers::PageNumbers;
 use rq_bytes::equal::are_equal;
 use rq_disk::{LogDevice, PageDevice};
 use rq_level::Level;
@@ -39,26 +36,12 @@ use rq_planner::StoreLevels;
 use rq_pool::Pages;
 use std::alloc::Global;
 
-/// That no number of the pages as they were read is beyond so many records; else it is refused with the first page of which
-/// one is.
-pub(crate) fn check_page_numbers(numbers: &PageNumbers, records: u64) -> Result<(), Refusal>
-    ensures counted { OnOk result ((z : Sizes) (first : Images) → AreNumbersOf z first numbers.now.numbers.items
-        → ArePagesCounted z records first) }
-    ensures names { IfErr result (λ e. (z : Sizes) (first : Images) → AreNumbersOf z first numbers.now.numbers.items
-        → NamesFirst z records first e) }
-{
-    match numbers.first_beyond(records) {
-        Some(page) => Err(Refusal::Damaged(Damage::Page(page))),
-        None => Ok(()),
-    }
-}
-
 /// Goes through a log as it is read: each record is checked, and what it writes is made where its page is older. None is
-/// kept. Where an older page is wanting, another gives way in a frame: the log is durable then.
+/// kept. Where an older page is wanting, another gives way in a frame. The log is to be durable before.
 ///
 /// # Errors
 /// `Damaged` with the number of the first record that doesn't fit, or where none stands; `DiskRead`, `DiskWrite`; `LogFull`
-/// behind as many records as a log may have; `NoMemory`.
+/// behind as many records as a log may have; `NoMemory`. `Damaged` with the page that a device gave that has lied.
 pub(crate) fn repeat_history<P: PageDevice + Drop, L: LogDevice, B: Level>(
     alloc: Global,
     pages: &mut Pages<P>,
@@ -125,6 +108,7 @@ fn bring_in<P: PageDevice + Drop>(
     requires more { 1 < length pages.old.frames }
     ensures stands { OnOk result (StandsOrIsNewer pages.new lsn «record».now) }
     ensures pool { IsPool pages.old.sizes pages.old.images }
+    ensures marks { length pages.old.changed ≡ page_count pages.old.sizes }
     ensures kept { IsKeptUp P.PageDevice (2 ^ 64 - 1) pages.old pages.new }
     ensures stood { AreAllFramed pages.old → IsOk result × (pages.new ≡ pages.old) }
     ensures count { length pages.new.frames ≡ length pages.old.frames }
@@ -132,6 +116,7 @@ fn bring_in<P: PageDevice + Drop>(
     ensures counted { OnOk result (P.faults pages.new.device ≡ P.faults pages.old.device) }
     ensures fails { IfErr result (λ e. NotBroughtFor P.PageDevice «record».now e pages.old pages.new) }
 {
+    pages.shows_kept();
     let Some(page) = page_of(&pages.layout(), record) else {
         return Ok(());
     };

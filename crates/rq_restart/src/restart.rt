@@ -23,8 +23,8 @@ ghost use Rattle.rq_restart.specs.Undoing.{AreAsFound, FailsWith, GoesOn, HaveBe
 ghost use Rattle.rq_restart.specs.Underway.{pages_left, log_left};
 
 use crate::analysis::Analysis;
-use crate::page_numbers::PageNumbers;
-use crate::redo::{check_page_numbers, repeat_history};
+use crate::page_numbers::check_page_numbers;
+use crate::redo::repeat_history;
 use crate::rolling_back::undo_all;
 use crate::tables::{EngineTables, read_slots};
 use rq_disk::{LogDevice, PageDevice};
@@ -36,6 +36,7 @@ use rq_model::record::Record;
 use rq_model::refusal::Refusal;
 use rq_planner::StoreLevels;
 use rq_pool::Pages;
+use rq_pool::ahead::Ahead;
 use rq_pool::frame_count::FrameCount;
 use rq_record::{shows_fits, spelled_len};
 use std::alloc::Global;
@@ -79,11 +80,12 @@ pub struct Stopped<P, L> {
 /// Opens a store. It reads and checks pages and log, and repeats history on the pages. Operations without an end are undone by
 /// slots, transactions without one by inverses. The records of that are forced, with the Restart record of a new incarnation. All
 /// that is done in so many `frames` beside that of the superblock. Where these are too few for the pages, all that the log's device
-/// reads as is forced first. Pages then give way to others, and are read again. The levels are dropped where it is refused.
+/// reads as is forced first. Pages then give way to others, and are read again. The levels are dropped where it is refused. Both
+/// devices come back as a stop inside the restart may leave them.
 ///
 /// # Errors
 /// `NoMemory`. `DiskRead` or `DiskWrite` where a device fails. `Damaged` where a page or a record breaks the format, or a device
-/// gives another than before. `LogFull` where there is no room for the records.
+/// gives another page or record than before. `LogFull` where there is no room for the records.
 pub fn restart<P: PageDevice + Drop, L: LogDevice + Drop, B: Level>(
     alloc: Global,
     pages: P,
@@ -98,9 +100,8 @@ pub fn restart<P: PageDevice + Drop, L: LogDevice + Drop, B: Level>(
     ensures enough { ReadWhereEnough P.PageDevice pages (pages_left result) frames.count }
 {
     match Pages::load(alloc, pages, frames) {
-        Ok((pages, numbers)) => {
-            let numbers = PageNumbers { numbers };
-            match restart_log(alloc, pages, &numbers, log, levels, frames) {
+        Ok((pages, ahead)) => {
+            match restart_log(alloc, pages, &ahead, log, levels, frames) {
                 Ok(opened) => {
                     let Opened {
                         pages,
@@ -140,7 +141,7 @@ pub fn restart<P: PageDevice + Drop, L: LogDevice + Drop, B: Level>(
 fn restart_log<P: PageDevice + Drop, L: LogDevice + Drop, B: Level>(
     alloc: Global,
     mut pages: Pages<P>,
-    numbers: &PageNumbers,
+    ahead: &[Ahead],
     log: L,
     mut levels: StoreLevels<B>,
     frames: FrameCount,
@@ -148,7 +149,7 @@ fn restart_log<P: PageDevice + Drop, L: LogDevice + Drop, B: Level>(
     requires held { NoneHeld pages.frames }
     requires more { 1 < length pages.frames }
     requires framed { page_count pages.sizes ≤ frames.count + 1 → AreAllFramed pages }
-    requires numbers { AreNumbersOf pages.sizes (paged pages) numbers.now.numbers.items }
+    requires numbers { AreNumbersOf pages.sizes (paged pages) ahead.now }
     ensures opened { IfOk result (λ o. OpensLog P.PageDevice L.LogDevice pages o.pages log o.log o.cells o.tables.waiting
         o.tables.sent o.tables.planner o.report) }
     ensures refused { IfErr result (λ stopped. RefusesLog P.PageDevice L.LogDevice pages stopped.pages log stopped.log
@@ -162,7 +163,7 @@ fn restart_log<P: PageDevice + Drop, L: LogDevice + Drop, B: Level>(
 {
     match read_and_redo(alloc, &mut pages, log, &mut levels, frames) {
         Ok((mut log, mut analysis)) => {
-            match finish_restart(alloc, &mut pages, &mut log, &mut analysis, numbers, levels) {
+            match finish_restart(alloc, &mut pages, &mut log, &mut analysis, ahead, levels) {
                 Ok((tables, report)) => {
                     let cells = pages.used_cells();
                     Ok(Opened {
@@ -275,7 +276,7 @@ fn finish_restart<P: PageDevice + Drop, L: LogDevice + Drop, B: Level>(
     pages: &mut Pages<P>,
     log: &mut Log<L>,
     analysis: &mut Analysis,
-    numbers: &PageNumbers,
+    ahead: &[Ahead],
     levels: StoreLevels<B>,
 ) -> Result<(EngineTables<B>, Report), Refusal>
     requires held { NoneHeld pages.old.frames }
@@ -283,7 +284,6 @@ fn finish_restart<P: PageDevice + Drop, L: LogDevice + Drop, B: Level>(
     requires found { IsAnalysisOf analysis.old log.old.records }
     requires follow { L.honest log.old.device → FollowAll log.old.records }
     requires running { log.old.failed ≡ false }
-    requires numbers { (first : Images) × AreNumbersOf pages.old.sizes first numbers.now.numbers.items }
     // What the log comes to, and what is left of it.
     ensures restarted { IfOk result (λ begun. IsRestarted L.LogDevice pages.new.sizes pages.new.images log.old log.new
         begun.0.waiting begun.0.sent begun.0.planner begun.1) }
@@ -303,17 +303,17 @@ fn finish_restart<P: PageDevice + Drop, L: LogDevice + Drop, B: Level>(
     // What was checked, or why it was refused.
     ensures checked { OnOk result (HaveToldTruly P.PageDevice L.LogDevice pages.old pages.new log.new.device → (first : Images)
         → Repeats pages.old.sizes log.old.records first (paged pages.old)
-        → AreNumbersOf pages.old.sizes first numbers.now.numbers.items
+        → AreNumbersOf pages.old.sizes first ahead.now
         → HasRepeated pages.old.sizes log.old.records log.new.records first (paged pages.new)) }
     ensures shut { IfErr result (λ e. HaveToldTruly P.PageDevice L.LogDevice pages.old pages.new log.new.device → (first : Images)
         → Repeats pages.old.sizes log.old.records first (paged pages.old)
-        → AreNumbersOf pages.old.sizes first numbers.now.numbers.items
+        → AreNumbersOf pages.old.sizes first ahead.now
         → WhyShut pages.old.sizes log.old.records first e) }
     ensures way { HaveBeenHonest P.PageDevice L.LogDevice pages.new.device log.new.device → (f : Found P L)
         → Stands P.PageDevice L.LogDevice f pages.old log.old → AreAsFound P.PageDevice L.LogDevice f log.old.records
         → KeepsStore P.PageDevice L.LogDevice f pages.new.device log.new.device }
 {
-    match check_page_numbers(numbers, log.last()) {
+    match check_page_numbers(pages, ahead, log.last()) {
         Ok(()) => {}
         Err(refusal) => return Err(refusal),
     }

@@ -26,8 +26,8 @@ use rq_planner::{Planner, StoreLevels};
 use rq_pool::Pages;
 use std::alloc::Global;
 
-/// Undoes what has no end in the log, of which these are the findings: operations, and then transactions; and looks whether
-/// the senders' chains are whole then. Gives how many transactions there were, and what plans operations, told of each cell.
+/// Undoes what has no end in the log, of which these are the findings: operations, and then transactions. Then it looks whether
+/// the senders' chains are whole. Gives how many transactions were lost, and what plans operations, told of each cell.
 ///
 /// # Errors
 /// `NoMemory`; `DiskRead`, `DiskWrite`; `LogFull` where the log is at its greatest length; `Damaged` with the number of a record that

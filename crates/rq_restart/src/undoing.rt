@@ -25,7 +25,8 @@ use std::alloc::Global;
 ///
 /// # Errors
 /// `NoMemory`, where something is to be undone; `DiskRead`, `DiskWrite`; `LogFull` where the log is at its greatest length; `Damaged` with
-/// the number of a record that would not belong where it has to stand, or that the device gives no more.
+/// the number of a record that would not belong where it has to stand, or that the device gives no more; or with a page that a device
+/// gave that has lied.
 pub(crate) fn undo_unfinished<P: PageDevice + Drop, L: LogDevice + Drop, B: Level>(
     alloc: Global,
     pages: &mut Pages<P>,

@@ -8,7 +8,7 @@ use Rattle.rq_pool.specs.declared.Frame.{Frame}
 use Rattle.rq_pool.specs.Frames.{first_frame, first_page, first_place, frames_of, images_of, pages_of, places_of}
 use Rattle.rq_pool.specs.Indexed.{closed_groups, free_cells}
 use Rattle.rq_pool.specs.Reading.{IsSuperblock, StopsFor}
-use Rattle.rq_pool.proofs.Numbering.{AreNumberedTo, numbered_all, numbered_more}
+use Rattle.rq_pool.proofs.Numbering.{AreNumberedTo, numbered_more}
 use Rattle.rq_pool.proofs.Order.{all_stand, first_is_fixed, first_more, none_first, none_fixed, tied_first}
 use Rattle.rq_pool.proofs.Readings.{only_read_on, seen_more, read_more, earlier, stops_later}
 use Rattle.rq_pool.proofs.Indexes.{cells_stand, groups_stand, index_whole, noted_more}
@@ -33,7 +33,7 @@ loop-number-preserved g c =
       seen = λ h. seen_more old new n page grown i.read.count (P.seen c.args.device.now) (i.seen (read.device.honest h)) (read.ok.0 h ∙ ap (λ (s : Images). s n) i.device.same);
       unchanged = more.changed ∙ ap (λ (l : List Bool). l ++ false ∷ []) i.unchanged ∙ replicate_more n false;
       first = first_more c.args.most n old page (places_of c.loop-number.entries.items) (frames_of c.loop-number.frames.items) (pages_of c.loop-number.frames.items) i.read.count i.first new _ _ _ grown more.places more.frames more.pages;
-      numbers = numbered_more z old new n page c.greatest_number.result c.loop-number.numbers.items grown i.read.count (let lt = c.loop-number-test.true in let count = c.pages-count.ensures.number in omega (arith, lt, count)) c.greatest_number.ensures i.numbers;
+      numbers = (let told = c.in_ok-note_ahead.ensures in numbered_more z old new n page c.loop-number.ahead.items c.note_ahead.new.ahead.items grown i.read.count i.numbers told.here told.others);
       free = noted_more (free_cells z) z (cells_stand z) old new c.loop-number.free c.note_page.new.free n page grown i.read.count i.free noted.free noted.free_others noted.free_same;
       closed = noted_more (closed_groups z) z (groups_stand z) old new c.loop-number.closed c.note_page.new.closed n page grown i.read.count i.closed noted.closed noted.closed_others noted.closed_same;
       faults = read.cause ∙ i.faults;
@@ -65,6 +65,24 @@ returns-in_err-add_page-2-clause-err g c =
 pub returns-in_err-add_page-2-clause-device : goal.returns-in_err-add_page-2-clause-device
 returns-in_err-add_page-2-clause-device g c =
     only_read_on g.P.PageDevice c.args.device.now c.loop-number.device c.read_sound_page.new.device c.loop-number.invariant.device c.in_ok-read_sound_page.ensures.device
+
+-- or to tell its number
+pub returns-in_err-note_ahead-clause-err : goal.returns-in_err-note_ahead-clause-err
+returns-in_err-note_ahead-clause-err g c =
+    let P = g.P.PageDevice in
+    let i = c.loop-number.invariant in
+    let read = c.in_ok-read_sound_page.ensures in
+    let said : StopsFor P why.NoMemory c.args.device.now c.read_sound_page.new.device =
+    (λ h. (c.args.layout.now, subst (IsSuperblock c.args.layout.now) (c.requires.first (i.device.honest (read.device.honest h))) c.requires.superblock), read.cause ∙ i.faults) in
+    search (rules, said)
+
+pub returns-in_err-note_ahead-clause-device : goal.returns-in_err-note_ahead-clause-device
+returns-in_err-note_ahead-clause-device g c =
+    only_read_on g.P.PageDevice c.args.device.now c.loop-number.device c.read_sound_page.new.device c.loop-number.invariant.device c.in_ok-read_sound_page.ensures.device
+
+-- nothing was told of it before
+pub note_ahead-requires : goal.note_ahead-requires
+note_ahead-requires g c = c.loop-number.invariant.numbers.none c.loop-number.number (omega arith)
 
 -- all pages are read
 pub returns-clause-ok : goal.returns-clause-ok
@@ -118,7 +136,7 @@ pub returns-clause-numbers : goal.returns-clause-numbers
 returns-clause-numbers g c =
     let z = c.args.layout.now in
     let all : c.loop-number.number ≡ page_count z = (let low = c.loop-number-test.false in let high = c.loop-number.auto.number-end in let n = c.pages-count.ensures.number in omega (arith, low, high, n)) in
-    numbered_all z _ _ (subst (λ (n : ℕ). AreNumberedTo z (images_of c.loop-number.entries.items) n c.loop-number.numbers.items) all c.loop-number.invariant.numbers)
+    (subst (λ (n : ℕ). AreNumberedTo z (images_of c.loop-number.entries.items) n c.loop-number.ahead.items) all c.loop-number.invariant.numbers).same
 
 pub loop-number-init : goal.loop-number-init
 loop-number-init g c =
@@ -134,7 +152,7 @@ loop-number-init g c =
       seen = search rules;
       unchanged = search rules;
       first = first;
-      numbers = record { each = search rules; same = λ p low lt. absurd (omega (arith, low, lt)) };
+      numbers = record { same = λ p low lt. absurd (omega (arith, low, lt)); none = search rules };
       free = search rules;
       closed = search rules;
       faults = refl;

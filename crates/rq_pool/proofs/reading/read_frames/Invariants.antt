@@ -18,7 +18,7 @@ invariant-loop-number g l =
       seen : P.honest l.device → AreSeen (P.seen l.fn.device) (images_of l.entries.items) l.number;
       unchanged : changed_of l.entries.items ≡ replicate l.number false;
       first : AreFirst l.fn.most l.number (images_of l.entries.items) (places_of l.entries.items) (frames_of l.frames.items) (pages_of l.frames.items);
-      numbers : AreNumberedTo l.layout (images_of l.entries.items) l.number l.numbers.items;
+      numbers : AreNumberedTo l.layout (images_of l.entries.items) l.number l.ahead.items;
       free : AreNotedTo (free_cells l.layout) l.layout (images_of l.entries.items) l.free l.number;
       closed : AreNotedTo (closed_groups l.layout) l.layout (images_of l.entries.items) l.closed l.number;
       faults : P.faults l.device ≡ P.faults l.fn.device;

@@ -1,4 +1,4 @@
-use Rattle.std.proofs.Common.{Err, sym, ◌∙◌, subst}
+use Rattle.std.proofs.Common.{Err, sym, subst}
 use Rattle.rq_model.specs.declared.record.Record.{Record}
 use Rattle.rq_views.specs.Stored.{slots_in}
 use Rattle.rq_level.specs.Asked.{deed_back}

@@ -240,7 +240,7 @@ returns-in-Err-bring_in-clause-goes_on g c =
     let mid = c.bring_in.new.pages in
     let up = c.bring_in.ensures.kept in
     let at_read = going_read p l g.met.L.LogDevice.only_now start old first reader.device last.device [] front front kept.going read (looked.cause ∙ c.in_ok-next_into.ensures.cause) refl in
-    let step = goes_kept p l g.met.L.LogDevice.only_now old mid last.device front c.bring_in.result c.bring_in.ensures.pool up (λ all. (c.bring_in.ensures.stood all).1) c.bring_in.ensures.count c.bring_in.ensures.held c.bring_in.ensures.counted
+    let step = goes_kept p l g.met.L.LogDevice.only_now old mid last.device front c.bring_in.result c.bring_in.ensures.pool c.bring_in.ensures.marks up (λ all. (c.bring_in.ensures.stood all).1) c.bring_in.ensures.count c.bring_in.ensures.held c.bring_in.ensures.counted
     (IfErr-weaker c.bring_in.result _ _ (λ e f. not_brought_fails p f.0 old mid (failures l.faults last.device last.device) e refl f.2) c.bring_in.ensures.fails) in
     let e = c.in-Err-bring_in.refusal in
     going_refused p l start old mid first last.device last.device [] front front c.bring_in.result at_read step (Err e) e (r ∷ []) last.records c.in-Err-bring_in.is refl grown
@@ -295,7 +295,7 @@ loop-analysis-preserved g c =
     let mid = c.bring_in.new.pages in
     let up = c.bring_in.ensures.kept in
     let at_read = going_read p l g.met.L.LogDevice.only_now start old first reader.device last.device [] front front kept.going read (looked.cause ∙ c.in_ok-next_into.ensures.cause) refl in
-    let step = goes_kept p l g.met.L.LogDevice.only_now old mid last.device front c.bring_in.result c.bring_in.ensures.pool up (λ all. (c.bring_in.ensures.stood all).1) c.bring_in.ensures.count c.bring_in.ensures.held c.bring_in.ensures.counted
+    let step = goes_kept p l g.met.L.LogDevice.only_now old mid last.device front c.bring_in.result c.bring_in.ensures.pool c.bring_in.ensures.marks up (λ all. (c.bring_in.ensures.stood all).1) c.bring_in.ensures.count c.bring_in.ensures.held c.bring_in.ensures.counted
     (IfErr-weaker c.bring_in.result _ _ (λ e f. not_brought_fails p f.0 old mid (failures l.faults last.device last.device) e refl f.2) c.bring_in.ensures.fails) in
     let as_they_were : IsReadAsStored p old mid → mid.images ≡ old.images = ⊎_elim (λ all. ap (λ (x : Pooled _). x.images) (c.bring_in.ensures.stood all).1) (λ h. up.images h) in
     let at_mid = going_kept p l start old mid first last.device last.device [] front front c.bring_in.result at_read step (c.in-Ok-bring_in.ensures.counted, refl) as_they_were refl in
@@ -357,7 +357,7 @@ returns-in-Err-check_and_redo-clause-stopped g c =
     let mid = c.bring_in.new.pages in
     let up = c.bring_in.ensures.kept in
     let at_read = going_read p l g.met.L.LogDevice.only_now start old first reader.device last.device [] front front kept.going read (looked.cause ∙ c.in_ok-next_into.ensures.cause) refl in
-    let step = goes_kept p l g.met.L.LogDevice.only_now old mid last.device front c.bring_in.result c.bring_in.ensures.pool up (λ all. (c.bring_in.ensures.stood all).1) c.bring_in.ensures.count c.bring_in.ensures.held c.bring_in.ensures.counted
+    let step = goes_kept p l g.met.L.LogDevice.only_now old mid last.device front c.bring_in.result c.bring_in.ensures.pool c.bring_in.ensures.marks up (λ all. (c.bring_in.ensures.stood all).1) c.bring_in.ensures.count c.bring_in.ensures.held c.bring_in.ensures.counted
     (IfErr-weaker c.bring_in.result _ _ (λ e f. not_brought_fails p f.0 old mid (failures l.faults last.device last.device) e refl f.2) c.bring_in.ensures.fails) in
     let as_they_were : IsReadAsStored p old mid → mid.images ≡ old.images = ⊎_elim (λ all. ap (λ (x : Pooled _). x.images) (c.bring_in.ensures.stood all).1) (λ h. up.images h) in
     let at_mid = going_kept p l start old mid first last.device last.device [] front front c.bring_in.result at_read step (c.in-Ok-bring_in.ensures.counted, refl) as_they_were refl in
@@ -397,7 +397,7 @@ returns-in-Err-check_and_redo-clause-goes_on g c =
     let mid = c.bring_in.new.pages in
     let up = c.bring_in.ensures.kept in
     let at_read = going_read p l g.met.L.LogDevice.only_now start old first reader.device last.device [] front front kept.going read (looked.cause ∙ c.in_ok-next_into.ensures.cause) refl in
-    let step = goes_kept p l g.met.L.LogDevice.only_now old mid last.device front c.bring_in.result c.bring_in.ensures.pool up (λ all. (c.bring_in.ensures.stood all).1) c.bring_in.ensures.count c.bring_in.ensures.held c.bring_in.ensures.counted
+    let step = goes_kept p l g.met.L.LogDevice.only_now old mid last.device front c.bring_in.result c.bring_in.ensures.pool c.bring_in.ensures.marks up (λ all. (c.bring_in.ensures.stood all).1) c.bring_in.ensures.count c.bring_in.ensures.held c.bring_in.ensures.counted
     (IfErr-weaker c.bring_in.result _ _ (λ e f. not_brought_fails p f.0 old mid (failures l.faults last.device last.device) e refl f.2) c.bring_in.ensures.fails) in
     let as_they_were : IsReadAsStored p old mid → mid.images ≡ old.images = ⊎_elim (λ all. ap (λ (x : Pooled _). x.images) (c.bring_in.ensures.stood all).1) (λ h. up.images h) in
     let at_mid = going_kept p l start old mid first last.device last.device [] front front c.bring_in.result at_read step (c.in-Ok-bring_in.ensures.counted, refl) as_they_were refl in

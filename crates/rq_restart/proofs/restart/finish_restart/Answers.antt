@@ -9,18 +9,17 @@ use Rattle.rq_pool.specs.Fetching.{IsReadAsStored}
 use Rattle.rq_pool.specs.Pooled.{Pooled}
 use Rattle.rq_engine.specs.Earlier.{rebased}
 use Rattle.rq_restart.specs.Checked.{WasReadAndRedone}
-use Rattle.rq_restart.specs.Numbers.{NamesFirst}
 use Rattle.rq_restart.specs.Repeating.{ArePagesCounted, paged}
 use Rattle.rq_restart.specs.Restarting.{Reports}
 use Rattle.rq_restart.specs.RolledBack.{HasRepeated}
-use Rattle.rq_restart.specs.Undoing.{FailsWith, HaveBeenHonest, HaveToldTruly, failures}
+use Rattle.rq_restart.specs.Undoing.{FailsWith, HaveBeenHonest, HaveToldTruly}
 use Rattle.rq_restart.proofs.Begun.{begins, last_is, not_begun, reports}
 use Rattle.rq_restart.proofs.Continuing.{continues_on, fails_behind}
 use Rattle.rq_restart.proofs.GoingOn.{goes_nowhere, goes_reading, goes_then, told_behind, told_first}
 use Rattle.rq_restart.proofs.Moments.{begun_left, left_alone}
 use Rattle.rq_restart.proofs.Paths.{mended_keeps, slots_keep}
 use Rattle.rq_restart.proofs.Repeated.{few_read}
-use Rattle.rq_restart.proofs.Restarts.{begins_fails, begins_untouched, beyond_shut, gone_through, names_fail, rollback_shut, slots_shut, told_longer}
+use Rattle.rq_restart.proofs.Restarts.{begins_fails, begins_untouched, beyond_shut, gone_through, damage_fails, rollback_shut, slots_shut, told_longer}
 use Rattle.rq_restart.proofs.Telling.{tells_ended, tells_read, tells_then}
 use Rattle.rq_restart.proofs.Undos.{still}
 use Rattle.rq_restart.proofs.restart.finish_restart.Goals as goal
@@ -38,8 +37,8 @@ returns-in-Err-clause-continues g c =
 
 pub returns-in-Err-clause-fails : goal.returns-in-Err-clause-fails
 returns-in-Err-clause-fails g c =
-    let k = c.requires.numbers in
-    names_fail g.P.PageDevice c.args.pages.now.device c.args.pages.now.device c.args.pages.now.sizes c.last.result k.0 c.in-Err.refusal _ refl refl (c.in-Err.ensures.names c.args.pages.now.sizes k.0 k.1)
+    let is = c.in-Err.ensures.err in
+    damage_fails g.P.PageDevice c.args.pages.now.device c.args.pages.now.device is.0 c.in-Err.refusal _ is.1 refl refl
 
 pub returns-in-Err-clause-read : goal.returns-in-Err-clause-read
 returns-in-Err-clause-read g c = λ framed other. still g.L.LogDevice g.met.L.LogDevice.only_now c.args.log.now.device
@@ -48,7 +47,7 @@ pub returns-in-Err-clause-shut : goal.returns-in-Err-clause-shut
 returns-in-Err-clause-shut g c =
     let z = c.args.pages.now.sizes in
     let e = c.in-Err.refusal in
-    λ told first before k. beyond_shut z c.args.log.now.records first (paged c.args.pages.now) e before (subst (λ m. NamesFirst z m first e) c.last.ensures (c.in-Err.ensures.names z first k))
+    λ told first before k. beyond_shut z c.args.log.now.records first (paged c.args.pages.now) e before (c.in-Err.ensures.names c.args.log.now.records first c.last.ensures before k)
 
 pub returns-in-Err-clause-way : goal.returns-in-Err-clause-way
 returns-in-Err-clause-way g c = λ h f so are. so.on.path
@@ -75,7 +74,7 @@ returns-in-Err-undo_all-clause-shut g c =
     let z = c.args.pages.now.sizes in
     let older = c.args.log.now.records in
     let old = paged c.args.pages.now in
-    λ told first before k. rollback_shut z older first c.in-Err-undo_all.refusal (old, gone_through z older first old c.last.result c.args.numbers.now.numbers.items c.last.ensures c.in-Ok.ensures.counted before k) (c.in-Err-undo_all.ensures.stops told first before)
+    λ told first before k. rollback_shut z older first c.in-Err-undo_all.refusal (old, gone_through z older first old c.last.result c.args.ahead.now c.last.ensures c.in-Ok.ensures.counted before k) (c.in-Err-undo_all.ensures.stops told first before)
 
 pub returns-in-Err-undo_all-clause-way : goal.returns-in-Err-undo_all-clause-way
 returns-in-Err-undo_all-clause-way g c = λ h f so are. (c.in-Err-undo_all.ensures.way h f so are).1
@@ -127,7 +126,7 @@ returns-in-Err-read_slots-clause-shut g c =
     let then = c.undo_all.new.log in
     let z = pages.sizes in
     λ told first before k.
-    let gone = gone_through z log.records first (paged pages) c.last.result c.args.numbers.now.numbers.items c.last.ensures c.in-Ok.ensures.counted before k in
+    let gone = gone_through z log.records first (paged pages) c.last.result c.args.ahead.now c.last.ensures c.in-Ok.ensures.counted before k in
     let counted = undo.counted (told_first P L pages mid new then.device then.device slots.read.read.device.honest (λ h. h) told) gone.counted in
     let there : ArePagesCounted mid.sizes c.last-2.result (paged mid) = subst (λ (n : ℕ). ArePagesCounted mid.sizes n (paged mid)) (sym c.last-2.ensures) (subst (λ (y : Sizes). ArePagesCounted y (length then.records) (paged mid)) (sym undo.goes_on.sizes) counted) in
     slots_shut z log.records first c.in-Err-read_slots.refusal (paged pages, gone) (slots.stops (told_behind P L pages mid new log.device then.device then.device log.records then.records (Ok c.in-Ok-undo_all.undone) undo.goes_on told).0 there)
@@ -264,7 +263,7 @@ returns-in-Ok-begin_incarnation-clause-checked g c =
     (record {
       rolled_back = then.records;
       rolled_back_on = record {
-        read_and_redone = (paged pages, gone_through z log.records first (paged pages) c.last.result c.args.numbers.now.numbers.items c.last.ensures c.in-Ok.ensures.counted before k);
+        read_and_redone = (paged pages, gone_through z log.records first (paged pages) c.last.result c.args.ahead.now c.last.ensures c.in-Ok.ensures.counted before k);
         rolls_back = rolls.is;
         planned = rolls.planned first before;
         repeated = rolls.repeated first before;
@@ -334,7 +333,7 @@ returns-in-Err-begin_incarnation-clause-shut g c =
     let z = pages.sizes in
     λ told first before k.
     let rolls = undo.rolls_back (told_first P L pages mid new then.device then.device read.device.honest (λ h. h) (told.0, c.begin_incarnation.ensures.honest told.1)) in
-    let was : WasReadAndRedone z log.records first = (paged pages, gone_through z log.records first (paged pages) c.last.result c.args.numbers.now.numbers.items c.last.ensures c.in-Ok.ensures.counted before k) in
+    let was : WasReadAndRedone z log.records first = (paged pages, gone_through z log.records first (paged pages) c.last.result c.args.ahead.now c.last.ensures c.in-Ok.ensures.counted before k) in
     not_begun log.records then.records rolls.is c.undo_all.new.analysis.open_work undo.found.open_work c.incarnation.result c.incarnation.ensures z first (paged mid) c.in-Err-begin_incarnation.refusal (L.faults then.device) (L.faults now) (now ≡ then.device) (rolls.repeated first before) (rolls.planned first before) (rolls.recovered first before) was c.in-Err-begin_incarnation.ensures.err
 
 -- ---- what the log tells

@@ -1,6 +1,9 @@
-use Rattle.std.proofs.Common.{◌≡◌, inl, inr, refl}
+use Rattle.std.proofs.Common.{List, inl, inr, refl, subst, sym}
+use Rattle.rq_pool.specs.declared.ahead.Ahead.{Ahead}
+use Rattle.rq_restart.specs.Numbers.{AreNumbersOf}
+use Rattle.rq_restart.specs.Repeating.{paged}
 use Rattle.rq_restart.proofs.Numbers.{numbers_of}
-use Rattle.rq_restart.proofs.Opens.{few_numbers, opens, read_enough, refused_over, refuses, some_frame}
+use Rattle.rq_restart.proofs.Opens.{opens, read_enough, refused_over, refuses, some_frame}
 use Rattle.rq_restart.proofs.Paths.{keeps_stores, keeps_unread}
 use Rattle.rq_restart.proofs.Telling.{tells_read}
 use Rattle.rq_restart.proofs.Undos.{still}
@@ -12,13 +15,10 @@ restart_log-requires-clause-more g c =
     let loaded = c.in-Ok.ensures in
     some_frame P g.L.LogDevice c.args.pages c.args.log g.met.P.PageDevice.only_now c.in-Ok.pages loaded.pages loaded.seen loaded.device c.args.frames.count loaded.framed loaded.every c.args.frames.few
 
-pub invariant_of-numbers : goal.invariant_of-numbers
-invariant_of-numbers g c =
-    let loaded = c.in-Ok.ensures in
-    record { few = few_numbers g.P.PageDevice g.L.LogDevice c.args.pages c.args.log g.met.P.PageDevice.only_now c.in-Ok.pages loaded.pages loaded.seen loaded.device c.args.frames.count loaded.framed c.in-Ok.numbers.items loaded.numbers }
-
 pub restart_log-requires-clause-numbers : goal.restart_log-requires-clause-numbers
-restart_log-requires-clause-numbers g c = numbers_of c.in-Ok.pages.sizes c.in-Ok.pages.images c.in-Ok.numbers.items c.in-Ok.ensures.numbers
+restart_log-requires-clause-numbers g c =
+    subst (λ (ahead : List Ahead). AreNumbersOf c.in-Ok.pages.sizes (paged c.in-Ok.pages) ahead) (sym c.deref.ensures.value)
+    (numbers_of c.in-Ok.pages.sizes c.in-Ok.pages.images c.in-Ok.ahead.items c.in-Ok.ensures.numbers)
 
 pub open-engine-requires-clause-loose : goal.open-engine-requires-clause-loose
 open-engine-requires-clause-loose g c = c.in-Ok-restart_log.ensures.opened.continues.held c.in-Ok.ensures.loose

@@ -1,7 +1,4 @@
 use Rattle.std.proofs.Common.{◌<◌, ℕ, Ok, sym, subst}
-use Rattle.rq_page.specs.Sizes.{Sizes}
-use Rattle.rq_restart.specs.Numbers.{AreNumbersOf}
-use Rattle.rq_restart.specs.Repeating.{paged}
 use Rattle.rq_restart.proofs.Continuing.{all_continues, begins_so, none_fail_behind, refuses_reading, refuses_so, repeats_so, tells_behind}
 use Rattle.rq_restart.proofs.restart.restart_log.Goals as goal
 
@@ -10,9 +7,6 @@ finish_restart-requires-clause-held g c = c.in-Ok.ensures.went.held c.requires.h
 
 pub finish_restart-requires-clause-more : goal.finish_restart-requires-clause-more
 finish_restart-requires-clause-more g c = subst (λ (n : ℕ). 1 < n) (sym c.in-Ok.ensures.went.count) c.requires.more
-
-pub finish_restart-requires-clause-numbers : goal.finish_restart-requires-clause-numbers
-finish_restart-requires-clause-numbers g c = (paged c.args.pages, subst (λ (y : Sizes). AreNumbersOf y (paged c.args.pages) c.args.numbers.now.numbers.items) (sym c.in-Ok.ensures.went.sizes) c.requires.numbers)
 
 pub returns-in-Ok-finish_restart-clause-opened : goal.returns-in-Ok-finish_restart-clause-opened
 returns-in-Ok-finish_restart-clause-opened g c =
@@ -36,7 +30,7 @@ returns-in-Ok-finish_restart-clause-opened g c =
       was_read = read.read;
       honest = made.continues.log_honest;
       restarted = made.restarted;
-      repeated = repeats_so P L first mid last was log new r read.went read.went.counted read.repeated read.read made.continues c.args.numbers.now.numbers.items c.requires.numbers made.checked;
+      repeated = repeats_so P L first mid last was log new r read.went read.went.counted read.repeated read.read made.continues c.args.ahead.now c.requires.numbers made.checked;
       begun = made.begun;
       any_moment = begins_so P L first mid last was log new r read.went read.went.counted read.repeated read.read made.continues made.left;
       telling = tells_behind P L first mid last was log new r read.went read.went.counted read.repeated read.read made.continues (Unit {0}) made.telling;
@@ -60,7 +54,7 @@ returns-in-Ok-clause-refused g c =
     let read = c.in-Ok.ensures in
     let made = c.in-Err-finish_restart.ensures in
     rw c.give_back.ensures (rw c.give_back-in-Err-finish_restart.ensures
-    (refuses_so P L first mid last was log new (Ok c.in-Ok.analysis) read.went read.went.counted read.repeated read.read made.continues c.in-Err-finish_restart.refusal c.args.numbers.now.numbers.items c.requires.numbers made.left made.fails made.read made.telling made.shut))
+    (refuses_so P L first mid last was log new (Ok c.in-Ok.analysis) read.went read.went.counted read.repeated read.read made.continues c.in-Err-finish_restart.refusal c.args.ahead.now c.requires.numbers made.left made.fails made.read made.telling made.shut))
 
 pub returns-in-Ok-clause-way_back : goal.returns-in-Ok-clause-way_back
 returns-in-Ok-clause-way_back g c =

@@ -2,7 +2,7 @@ use Rattle.std.proofs.Common.{◌≡◌, ◌+◌, max, sym, ◌∙◌, ap, subst
 use Rattle.rq_page.specs.Pages.{slot_of}
 use Rattle.rq_page.specs.Formatted.{count_in}
 use Rattle.rq_pool.proofs.Numbering.{IsGreatest, greatest_all, greatest_more}
-use Rattle.rq_pool.proofs.greatest.greatest_number.Goals as goal
+use Rattle.rq_pool.proofs.ahead.greatest_number.Goals as goal
 
 pub loop-slot-preserved : goal.loop-slot-preserved
 loop-slot-preserved c =
