@@ -24,4 +24,6 @@ mod Crashes
 mod Closes
 mod Replies
 mod Bases
+mod WrongLevels
+mod TwoMessages
 mod Leveled

@@ -22,5 +22,6 @@ pub mod Migrations
 pub mod Closes
 pub mod Replies
 pub mod Bases
+pub mod WrongLevels
 pub mod Leveled
 pub mod Cases

@@ -7,6 +7,8 @@ use Rattle.rq_model.specs.declared.refusal.Refusal.TheVariants as why
 use Rattle.rq_model.specs.declared.refusal.Damage.{Damage}
 use Rattle.rq_model.specs.History.Call.{Begin, Commit as Commit_call}
 use Rattle.rq_disk.specs.Device.{Images}
+use Rattle.rq_disk.specs.declared.device.LogDevice as log_device
+use Rattle.rq_disk.specs.declared.device.PageDevice as page_device
 use Rattle.rq_disk.specs.declared.mem_log.MemLog.{MemLog}
 use Rattle.rq_disk.specs.declared.mem_pages.MemPages.{MemPages}
 use Rattle.rq_record.specs.Spelling.{spelling}
@@ -89,7 +91,7 @@ pub record RefusalsAreJudged : Type 0 where
       → mem_pages.faults new_pages ≡ (mem_pages.faults pages + 1) % 2 ^ 64
       → mem_log.faults new_log ≡ (mem_log.faults log + 1) % 2 ^ 64
       → IsRefused pages log count why.DiskWrite new_pages new_log → ⊥
-  -- behind records that were repeated, for want of a page in a frame; or before them all, as what is read could not be made durable
+  -- behind records that were repeated, for want of a page in a frame. Or before them all, where what is read was not made durable.
   pub commit_lacks_a_page : (page : ℕ) → IsToBeWritten sizes (Commit t1) page → ⊥
   pub send_may_lack_its_page : IsToBeWritten sizes (page_op t1 1 fill_cell) 2
   pub page_lacks_for_memory : (front : List Record) (old new : MemLog)
@@ -132,6 +134,14 @@ pub record FewFramesAreJudged : Type 0 where
   pub left_by_no_record : (pages : MemPages) (log : MemLog) (count : ℕ) (s : OpenStore MemPages MemLog) (report : Report)
       → AreNewPages pages formatted_pages → s.state.sizes ≡ sizes → length s.state.records ≤ 6
       → mem_pages.may_be s.pages 1 (image_in taken_pages 1) → Opens mem_pages mem_log pages log count s report → ⊥
+
+module _ {P L : Type 0} (p : page_device.Ghosts P) (l : log_device.Ghosts L) where
+  -- restarts whatever the devices are
+  pub record OpeningsAreJudged : Type 0 where
+    -- the LSN of a page is beyond the log that was opened over it
+    pub page_beyond_the_log : (pages : P) (log : L) (count : ℕ) (s : OpenStore P L) (report : Report) (page : ℕ) → 1 ≤ page
+        → page < page_count s.state.sizes → length s.state.records < lsn_of (image_at s.state.images page)
+        → Opens p l pages log count s report → ⊥
 
 -- a log of these records, all of them forced, over a device
 abbrev pub logged : List Record → MemLog → Logged MemLog

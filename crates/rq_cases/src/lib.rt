@@ -6,10 +6,13 @@ ghost use Rattle.rq_cases.specs.Courses.{NoneIsJudged};
 ghost use Rattle.rq_cases.specs.Crashes.{CrashesAreJudged};
 ghost use Rattle.rq_cases.specs.Devices.{DevicesAreJudged};
 ghost use Rattle.rq_cases.specs.Histories.{HistoriesGoOn};
-ghost use Rattle.rq_cases.specs.Leveled.{LevelsAreJudged};
+ghost use Rattle.rq_cases.specs.Leveled.{LevelsAreJudged, WrongPlansAreRefused};
 ghost use Rattle.rq_cases.specs.Migrations.{MigrationsAreJudged};
+ghost use Rattle.rq_cases.specs.Openings.{OpeningsAreJudged};
 ghost use Rattle.rq_cases.specs.Worlds.{HeadlinesAreJudged};
+ghost use Rattle.rq_cases.specs.WrongLevels.{WrongLevels};
 
+use rq_disk::{LogDevice, PageDevice};
 use rq_model::laws::{
     acknowledged_stay, checkpoint_crash_goes_on, crash_goes_on, first_in_first_out, growth_goes_on,
     restart_goes_on, shown_is_committed, shut_crash_goes_on,
@@ -24,8 +27,8 @@ pub fn devices_are_judged()
     one_size();
 }
 
-/// What goes on with a history whose store is not open, or got tag pages: crashes and restarts that may come there, and some
-/// that may not.
+/// What goes on with a history whose store is not open, or got tag pages. Crashes and restarts may come there, and some may
+/// not.
 pub fn histories_go_on()
     ensures { HistoriesGoOn }
 {
@@ -67,9 +70,22 @@ pub fn migrations_are_judged()
     ensures { MigrationsAreJudged }
 {}
 
-/// Plans of levels that are as they should be: a receive, a slot write that is taken back, and a mark.
+/// Plans of levels as they should be: sends and receives, what takes each back, a mark, and a slot write that is taken back.
+/// Of each level there are wrong ones, too.
 pub fn levels_are_judged()
-    ensures { LevelsAreJudged }
+    ensures right { LevelsAreJudged }
+    ensures wrong { WrongPlansAreRefused }
+{}
+
+/// Levels that are right but have one wrong answer more, ask or note otherwise, or are ready otherwise, and a law that refuses
+/// each.
+pub fn wrong_levels_are_refused()
+    ensures { WrongLevels }
+{}
+
+/// Stores that no restart opens, whatever the devices are.
+pub fn openings_are_judged<P: PageDevice, L: LogDevice>()
+    ensures { OpeningsAreJudged P.PageDevice L.LogDevice }
 {}
 
 /// The worked cases that rest on no law: each field says what of.

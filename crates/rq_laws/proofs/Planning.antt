@@ -1,5 +1,5 @@
--- Plans of the level of chains, by two that keep the same and are given the same.
-use Rattle.std.proofs.Common.{◌≡◌, ℕ, ◌+◌, ◌/◌, ◌≤◌, nat_eq, List, [], ◌∷◌, refl, sym, ◌∙◌, ap, subst, Bool, true, false, Option, Some, None, Result, Ok, Err, inl, inr, arith, true≢false}
+-- Plans of levels of one number, by two that keep the same and are given the same.
+use Rattle.std.proofs.Common.{◌≡◌, ℕ, zero, suc, ◌+◌, ◌-◌, ◌*◌, ◌/◌, ◌≤◌, nat_eq, List, [], ◌∷◌, refl, sym, ◌∙◌, ap, subst, Bool, true, false, Option, Some, None, Result, Ok, Err, inl, inr, arith, true≢false}
 use Rattle.std.specs.Result.{IfOk}
 use Rattle.std.proofs.lemmas.Bool.{cases_Bool, cases_lt, eqb-true, and_parts}
 use Rattle.std.proofs.lemmas.List.Elements.{All-head, All-tail}
@@ -12,23 +12,27 @@ use Rattle.rq_model.specs.declared.refusal.Refusal.TheVariants as why
 use Rattle.rq_model.specs.Deeds.{deed_by, spelled_deed}
 use Rattle.rq_page.specs.declared.cell.Cell.{Cell}
 use Rattle.rq_page.specs.declared.directory.Directory.{Directory}
-use Rattle.rq_page.specs.Sizes.{Sizes, cell_at, directory_at}
+use Rattle.rq_page.specs.declared.client.ClientSlot.{ClientSlot}
+use Rattle.rq_page.specs.Sizes.{Sizes, cell_at, client_slot_at, directory_at}
 use Rattle.rq_page.specs.Slots.{Slot}
-use Rattle.rq_page.specs.Slots.Slot.{Used}
+use Rattle.rq_page.specs.Slots.Slot.{Client, Used}
 use Rattle.rq_views.specs.Items.{layout_of}
-use Rattle.rq_views.specs.Plans.{append_writes, unlink_head_writes, unlink_tail_writes, put_back_writes, directory_write}
+use Rattle.rq_views.specs.Plans.{append_writes, client_write, unlink_head_writes, unlink_tail_writes, put_back_writes, directory_write}
 use Rattle.rq_level.specs.declared.slots.Given.{Given}
 use Rattle.rq_level.specs.declared.writes.Plan.{Plan}
+use Rattle.rq_level.specs.declared.writes.SlotWrite.{SlotWrite}
 use Rattle.rq_level.specs.ChainPlans.{Beside, CanMark, CanReceive, CanSend, CanPutBack, CanUnlinkTail, IsClosed, IsMarked, IsReceived, IsReopened, IsReturned, IsSent, IsTailUnlinked, Plans, PlansFor, RefusesOther, RefusesTaking, RefusesUnread, Undoes, chain_undoes}
 use Rattle.rq_level.specs.Given.{AreGiven, GivenHolds, HoldsBytes, IsGiven, given_at}
 use Rattle.rq_level.specs.LevelState.{LevelState, IsLowest, reserved_at}
 use Rattle.rq_level.specs.Meaning.{AreOf, meaning_of}
-use Rattle.rq_level.specs.Ops.{Doing, Job, doing_by}
+use Rattle.rq_level.specs.Ops.{Doing, Job, Tagging, doing_by, tagging_by}
 use Rattle.rq_level.specs.Ops.Doing.{Send, Receive, Close}
+use Rattle.rq_level.specs.PagePlans.{IsOneWrite, TakesBack, is_slot_number, page_undoes}
+use Rattle.rq_level.specs.TagPlans.{CanTag, CanUntag, IsTagPlan, IsUntagPlan, PlansTag, RefusesTag, TagsFor, UndoesTag, tag_undoes}
 use Rattle.rq_chain.proofs.Givens.{same_held}
 use Rattle.rq_sound.proofs.PlanFits.{same_cell}
-use Rattle.rq_laws.specs.Planned.{IsMemory, PlannedAlike, PlansAlike}
-use Rattle.rq_laws.proofs.Slots.{sender_same}
+use Rattle.rq_laws.specs.Planned.{BackAlike, IsMemory, PlannedAlike, PlansAlike, PutBackAlike, WritesAlike}
+use Rattle.rq_laws.proofs.Slots.{client_same, sender_same}
 
 -- ---- what was given
 
@@ -202,20 +206,141 @@ record_alike : (k : LevelState) (told : Record) (given : List Given) (latched : 
 record_alike k (records.OpEnd t n level deed) given latched p q x y all f h = undoes_alike k.sizes (deed_by level deed) k given latched p q x y all f h
 record_alike k _ given latched p q x y all f h = unread_alike k.sizes k p q x y f h
 
--- levels of chains that keep the same plan alike
-pub level_plans : (n m : ℕ) (k j : LevelState) (job : Job) (given : List Given) (latched : List ℕ) (p q : Result Plan Refusal) (x y : LevelState) → n ≡ 1 → m ≡ 1 → k ≡ j → AreOf k.sizes given
-    → (meaning_of n).plans k job given latched p x → (meaning_of m).plans j job given latched q y → Alike k.sizes p q x y
+-- ---- the level of tags
+
+client_given : (z : Sizes) (given : List Given) (c : ℕ) (x y : ClientSlot) → GivenHolds z given (client_slot_at z c) (Client x) → GivenHolds z given (client_slot_at z c) (Client y) → x ≡ y
+client_given z given c x y f h = client_same x y (same_held z (client_slot_at z c) (Client x) (Client y) (given_at (client_slot_at z c) given) f h)
+
+tagged_alike : (z : Sizes) (k : LevelState) (given : List Given) (c tag : ℕ) (p q : Plan) (x y : LevelState) → IsTagPlan z k given c tag p x → IsTagPlan z k given c tag q y → PlansAlike z p q × (x ≡ y)
+tagged_alike z k given c tag p q x y f h =
+    let d = client_given z given c f.can.held h.can.held f.can.held_is h.can.held_is in (
+      record {
+        writes = f.writes ∙ ap (λ (v : ClientSlot). client_write (layout_of z) v (record v { count = v.count + 1; tag = tag }) ∷ []) d ∙ sym h.writes;
+        deed = f.deed ∙ ap (λ (v : ClientSlot). spelled_deed (Mark c tag v.tag)) d ∙ sym h.deed;
+        reply = f.reply ∙ sym h.reply;
+      },
+      f.kept ∙ sym h.kept,
+    )
+
+untagged_alike : (z : Sizes) (k : LevelState) (given : List Given) (c tag previous : ℕ) (p q : Plan) (x y : LevelState) → IsUntagPlan z k given c tag previous p x → IsUntagPlan z k given c tag previous q y → PlansAlike z p q × (x ≡ y)
+untagged_alike z k given c tag previous p q x y f h =
+    let d = client_given z given c f.can.held h.can.held f.can.held_is h.can.held_is in (
+      record {
+        writes = f.writes ∙ ap (λ (v : ClientSlot). client_write (layout_of z) v (record v { count = v.count - 1; tag = previous }) ∷ []) d ∙ sym h.writes;
+        deed = f.inverse.deed ∙ sym h.inverse.deed;
+        reply = f.inverse.reply ∙ sym h.inverse.reply;
+      },
+      f.kept ∙ sym h.kept,
+    )
+
+tag_wants_memory : (z : Sizes) (c : ℕ) (Can : Type 0) (r : Refusal) → Can → RefusesTag z c Can r → IsMemory r
+tag_wants_memory z c Can why.NoMemory can h = tt
+tag_wants_memory z c Can (why.Damaged d) can h = h.1 can
+tag_wants_memory z c Can _ can h = absurd h
+
+tags_alike : (zs : Option Sizes) (t : Option Tagging) (k : LevelState) (given : List Given) (p q : Result Plan Refusal) (x y : LevelState)
+    → PlansTag zs t k given p x → PlansTag zs t k given q y → Alike zs p q x y
+tags_alike (Some z) (Some t) k given (Ok a) (Ok b) x y f h = tagged_alike z k given t.client t.tag a b x y f h
+tags_alike (Some z) (Some t) k given (Ok a) (Err r) x y f h = (tag_wants_memory z t.client (CanTag z given t.client) r f.can h.0, tt)
+tags_alike (Some z) (Some t) k given (Err r) (Ok b) x y f h = (tag_wants_memory z t.client (CanTag z given t.client) r h.can f.0, tt)
+tags_alike (Some z) (Some t) k given (Err r) (Err v) x y f h = (tt, tt)
+tags_alike (Some z) None k given p q x y f h = unread_alike (Some z) k p q x y f h
+tags_alike None (Some t) k given p q x y f h = unread_alike None k p q x y f h
+tags_alike None None k given p q x y f h = unread_alike None k p q x y f h
+
+for_tags_alike : (undo : Bool) (zs : Option Sizes) (t : Option Tagging) (k : LevelState) (given : List Given) (p q : Result Plan Refusal) (x y : LevelState)
+    → TagsFor undo zs t k given p x → TagsFor undo zs t k given q y → Alike zs p q x y
+for_tags_alike true zs t k given p q x y f h = unread_alike zs k p q x y f h
+for_tags_alike false zs t k given p q x y f h = tags_alike zs t k given p q x y f h
+
+untags_alike : (zs : Option Sizes) (d : Option Deed) (k : LevelState) (given : List Given) (p q : Result Plan Refusal) (x y : LevelState)
+    → UndoesTag zs d k given p x → UndoesTag zs d k given q y → Alike zs p q x y
+untags_alike (Some z) (Some (Mark c tag previous)) k given (Ok a) (Ok b) x y f h = untagged_alike z k given c tag previous a b x y f h
+untags_alike (Some z) (Some (Mark c tag previous)) k given (Ok a) (Err r) x y f h = (tag_wants_memory z c (CanUntag z given c tag) r f.can h.0, tt)
+untags_alike (Some z) (Some (Mark c tag previous)) k given (Err r) (Ok b) x y f h = (tag_wants_memory z c (CanUntag z given c tag) r h.can f.0, tt)
+untags_alike (Some z) (Some (Mark c tag previous)) k given (Err r) (Err v) x y f h = (tt, tt)
+untags_alike (Some z) (Some (Append s n tag previous body)) k given p q x y f h = unread_alike (Some z) k p q x y f h
+untags_alike (Some z) (Some (UnlinkHead s n tag body)) k given p q x y f h = unread_alike (Some z) k p q x y f h
+untags_alike (Some z) (Some (Close_deed s)) k given p q x y f h = unread_alike (Some z) k p q x y f h
+untags_alike (Some z) None k given p q x y f h = unread_alike (Some z) k p q x y f h
+untags_alike None (Some d) k given p q x y f h = unread_alike None k p q x y f h
+untags_alike None None k given p q x y f h = unread_alike None k p q x y f h
+
+marked_record_alike : (k : LevelState) (told : Record) (given : List Given) (latched : List ℕ) (p q : Result Plan Refusal) (x y : LevelState)
+    → tag_undoes k told given latched p x → tag_undoes k told given latched q y → Alike k.sizes p q x y
+marked_record_alike k (records.OpEnd t n level deed) given latched p q x y f h = untags_alike k.sizes (deed_by level deed) k given p q x y f h
+marked_record_alike k _ given latched p q x y f h = unread_alike k.sizes k p q x y f h
+
+-- ---- the level of single slots
+
+one_alike : (a : ℕ) (before after : List ℕ) (ws vs : List SlotWrite) → IsOneWrite a before after ws → IsOneWrite a before after vs → WritesAlike ws vs
+one_alike a before after [] vs f h = absurd f
+one_alike a before after (w ∷ u ∷ ws) vs f h = absurd f
+one_alike a before after (w ∷ []) [] f h = absurd h
+one_alike a before after (w ∷ []) (v ∷ u ∷ vs) f h = absurd h
+one_alike a before after (w ∷ []) (v ∷ []) f h = (f.0 ∙ sym h.0, f.1 ∙ sym h.1, f.2 ∙ sym h.2, tt)
+
+memory_alone : (k : LevelState) (a : ℕ) (before after : List ℕ) (r : Refusal) (x : LevelState) → TakesBack k true a before after (Err r) x → IsMemory r
+memory_alone k a before after why.NoMemory x h = tt
+memory_alone k a before after _ x h = absurd h
+
+abbrev BothPutBack : Result Plan Refusal → Result Plan Refusal → LevelState → LevelState → Type 0
+BothPutBack p q x y = PutBackAlike p q × SameKept p q x y
+
+unread_back : (k : LevelState) (p q : Result Plan Refusal) (x y : LevelState) → RefusesUnread k p x → RefusesUnread k q y → BothPutBack p q x y
+unread_back k (Ok a) q x y f h = absurd f
+unread_back k (Err r) (Ok b) x y f h = absurd h
+unread_back k (Err r) (Err s) x y f h = (tt, tt)
+
+write_alike : (is : Bool) (k : LevelState) (a : ℕ) (before after : List ℕ) (p q : Result Plan Refusal) (x y : LevelState)
+    → TakesBack k is a before after p x → TakesBack k is a before after q y → BothPutBack p q x y
+write_alike true k a before after (Ok p) (Ok q) x y f h = (
+  record {
+    writes = one_alike a after before p.writes.items q.writes.items f.0.write h.0.write;
+    deed = f.0.deed ∙ sym h.0.deed;
+    reply = f.0.reply ∙ sym h.0.reply;
+  },
+  f.1 ∙ sym h.1,
+)
+write_alike true k a before after (Ok p) (Err r) x y f h = (memory_alone k a before after r y h, tt)
+write_alike true k a before after (Err r) (Ok q) x y f h = (memory_alone k a before after r x f, tt)
+write_alike true k a before after (Err r) (Err s) x y f h = (tt, tt)
+write_alike false k a before after p q x y f h = unread_back k p q x y f h
+
+page_alike : (k : LevelState) (told : Record) (given : List Given) (latched : List ℕ) (p q : Result Plan Refusal) (x y : LevelState)
+    → page_undoes k told given latched p x → page_undoes k told given latched q y → BothPutBack p q x y
+page_alike k (records.PageOp t n page slot before after) given latched p q x y f h =
+    write_alike (is_slot_number slot) k (page * 16 + slot) before after p q x y f h
+page_alike k _ given latched p q x y f h = unread_back k p q x y f h
+
+-- ---- levels of one number
+
+planned_by : (n : ℕ) (k : LevelState) (job : Job) (given : List Given) (latched : List ℕ) (p q : Result Plan Refusal) (x y : LevelState) → AreOf k.sizes given
+    → (meaning_of n).plans k job given latched p x → (meaning_of n).plans k job given latched q y → Alike k.sizes p q x y
 unfolding meaning_of
-level_plans n m k j job given latched p q x y one also same all f h =
-    for_alike job.undo k.sizes (doing_by job.level job.bytes) k given latched p q x y all
-    (subst (λ (i : ℕ). (meaning_of i).plans k job given latched p x) one f)
-    (subst (λ (v : LevelState). (meaning_of 1).plans v job given latched q y) (sym same) (subst (λ (i : ℕ). (meaning_of i).plans j job given latched q y) also h))
+planned_by zero k job given latched p q x y all f h = unread_alike k.sizes k p q x y f h
+planned_by (suc zero) k job given latched p q x y all f h = for_alike job.undo k.sizes (doing_by job.level job.bytes) k given latched p q x y all f h
+planned_by (suc (suc zero)) k job given latched p q x y all f h = for_tags_alike job.undo k.sizes (tagging_by job.level job.bytes) k given p q x y f h
+planned_by (suc (suc (suc n))) k job given latched p q x y all f h = unread_alike k.sizes k p q x y f h
+
+undone_by : (n : ℕ) (k : LevelState) (told : Record) (given : List Given) (latched : List ℕ) (p q : Result Plan Refusal) (x y : LevelState) → AreOf k.sizes given
+    → (meaning_of n).undoes k told given latched p x → (meaning_of n).undoes k told given latched q y → BackAlike n k.sizes p q × SameKept p q x y
+unfolding meaning_of
+undone_by zero k told given latched p q x y all f h = page_alike k told given latched p q x y f h
+undone_by (suc zero) k told given latched p q x y all f h = record_alike k told given latched p q x y all f h
+undone_by (suc (suc zero)) k told given latched p q x y all f h = marked_record_alike k told given latched p q x y f h
+undone_by (suc (suc (suc n))) k told given latched p q x y all f h = unread_alike k.sizes k p q x y f h
+
+-- those that keep the same plan alike
+pub level_plans : (n m : ℕ) (k j : LevelState) (job : Job) (given : List Given) (latched : List ℕ) (p q : Result Plan Refusal) (x y : LevelState) → n ≡ m → k ≡ j → AreOf k.sizes given
+    → (meaning_of n).plans k job given latched p x → (meaning_of m).plans j job given latched q y → Alike k.sizes p q x y
+level_plans n m k j job given latched p q x y number same all f h =
+    planned_by n k job given latched p q x y all f
+    (subst (λ (v : LevelState). (meaning_of n).plans v job given latched q y) (sym same) (subst (λ (i : ℕ). (meaning_of i).plans j job given latched q y) (sym number) h))
 
 -- and take back alike
-pub level_undoes : (n m : ℕ) (k j : LevelState) (told : Record) (given : List Given) (latched : List ℕ) (p q : Result Plan Refusal) (x y : LevelState) → n ≡ 1 → m ≡ 1 → k ≡ j → AreOf k.sizes given
-    → (meaning_of n).undoes k told given latched p x → (meaning_of m).undoes j told given latched q y → Alike k.sizes p q x y
-unfolding meaning_of
-level_undoes n m k j told given latched p q x y one also same all f h =
-    record_alike k told given latched p q x y all
-    (subst (λ (i : ℕ). (meaning_of i).undoes k told given latched p x) one f)
-    (subst (λ (v : LevelState). (meaning_of 1).undoes v told given latched q y) (sym same) (subst (λ (i : ℕ). (meaning_of i).undoes j told given latched q y) also h))
+pub level_undoes : (n m : ℕ) (k j : LevelState) (told : Record) (given : List Given) (latched : List ℕ) (p q : Result Plan Refusal) (x y : LevelState) → n ≡ m → k ≡ j → AreOf k.sizes given
+    → (meaning_of n).undoes k told given latched p x → (meaning_of m).undoes j told given latched q y → BackAlike n k.sizes p q × SameKept p q x y
+level_undoes n m k j told given latched p q x y number same all f h =
+    undone_by n k told given latched p q x y all f
+    (subst (λ (v : LevelState). (meaning_of n).undoes v told given latched q y) (sym same) (subst (λ (i : ℕ). (meaning_of i).undoes j told given latched q y) (sym number) h))

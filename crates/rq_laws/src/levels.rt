@@ -3,7 +3,7 @@ ghost use Rattle.std.specs.Prelude.{◌≡◌, IfOk};
 ghost use Rattle.rq_level.specs.Meaning.{AreOf, IsRedo, redo_of};
 ghost use Rattle.rq_level.specs.Writes.{with_plan};
 ghost use Rattle.rq_laws.specs.Alike.{PagesAlike};
-ghost use Rattle.rq_laws.specs.Planned.{PlannedAlike};
+ghost use Rattle.rq_laws.specs.Planned.{BackAlike, PlannedAlike};
 
 use rq_level::{Level, Op, PageSet, Plan, Slots};
 use rq_model::record::{Record, Slot};
@@ -53,9 +53,9 @@ pub fn redoes<B: Level>(
     )
 }
 
-/// The level of chains plans the same, keeps the same chosen cell, and where one plans, the other refuses for want of
-/// memory alone. Excludes a plan that takes a cell on a latched page, or another than the lowest, and one whose cell
-/// is not reserved.
+/// They plan the same, keep the same chosen cell, and where one plans, the other refuses for want of memory alone.
+/// Excludes a plan that takes a cell on a latched page, or another than the lowest, and one whose cell is not reserved.
+/// Excludes a mark that is not counted, or whose deed tells another tag before it. The level of single slots plans nothing.
 pub fn plans<B: Level>(
     first: &mut B,
     second: &mut B,
@@ -65,8 +65,7 @@ pub fn plans<B: Level>(
     plan: &mut Plan,
     again: &mut Plan,
 ) -> (Result<(), Refusal>, Result<(), Refusal>)
-    requires chains { B.level first.old ≡ 1 }
-    requires again { B.level second.old ≡ 1 }
+    requires level { B.level first.old ≡ B.level second.old }
     requires kept { B.kept first.old ≡ B.kept second.old }
     requires given { AreOf (B.kept first.old).sizes given.now }
     ensures planned { PlannedAlike (B.kept first.old).sizes (with_plan plan.new result.0) (with_plan again.new result.1) }
@@ -79,7 +78,9 @@ pub fn plans<B: Level>(
     )
 }
 
-/// It plans the same to take a deed back. Excludes an empty plan, and one that puts a message back at the tail.
+/// They plan the same to take a deed back, or a slot write where they are levels of single slots. Excludes an empty plan,
+/// one that puts a message back at the tail, and one that leaves a mark counted, or its tag. Excludes one that puts another
+/// image back than stood before the write.
 pub fn undoes<B: Level>(
     first: &mut B,
     second: &mut B,
@@ -89,11 +90,10 @@ pub fn undoes<B: Level>(
     plan: &mut Plan,
     again: &mut Plan,
 ) -> (Result<(), Refusal>, Result<(), Refusal>)
-    requires chains { B.level first.old ≡ 1 }
-    requires again { B.level second.old ≡ 1 }
+    requires level { B.level first.old ≡ B.level second.old }
     requires kept { B.kept first.old ≡ B.kept second.old }
     requires given { AreOf (B.kept first.old).sizes given.now }
-    ensures planned { PlannedAlike (B.kept first.old).sizes (with_plan plan.new result.0) (with_plan again.new result.1) }
+    ensures planned { BackAlike (B.level first.old) (B.kept first.old).sizes (with_plan plan.new result.0) (with_plan again.new result.1) }
     ensures kept { IfOk (with_plan plan.new result.0) (λ _. IfOk (with_plan again.new result.1) (λ _.
         B.kept first.new ≡ B.kept second.new)) }
 {

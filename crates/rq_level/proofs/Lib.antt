@@ -14,4 +14,3 @@ pub mod TakenBack
 pub mod TagLaws
 pub mod Counted
 pub mod Superblock
-pub mod Worked

@@ -12,4 +12,3 @@ pub mod Asked
 pub mod OwnState
 pub mod TakenBack
 pub mod Lawful
-pub mod Worked

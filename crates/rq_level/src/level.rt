@@ -4,7 +4,6 @@ ghost use Rattle.rq_model.specs.Deeds.{deed_by};
 ghost use Rattle.rq_model.specs.Vocabulary.{is_some};
 ghost use Rattle.rq_level.specs.LevelState.{LevelState};
 ghost use Rattle.rq_level.specs.Lawful.{AllKeepAnew, AllLawful, AppliedTwiceIsOnce};
-ghost use Rattle.rq_level.specs.Worked.{WrongLevels};
 ghost use Rattle.rq_level.specs.Writes.{answer_of, with_plan};
 ghost use Rattle.rq_level.specs.Meaning.{meaning_of, wish, AreOf, redo_of, AppliesOnce, IsRedo, IsAppliedOnce, NotesNothing};
 
@@ -182,11 +181,6 @@ pub fn applied_twice_is_once()
 /// Each level keeps its laws, whatever its number.
 pub fn levels_are_lawful()
     ensures { AllLawful }
-{}
-
-/// Worked: levels that are right but have one wrong answer more, or note too little, which the laws refuse.
-pub fn wrong_levels_are_refused()
-    ensures { WrongLevels }
 {}
 
 /// Once the slots that were planned or written are noted, each level keeps what the slots, read anew, would give.

@@ -12,7 +12,6 @@ mod writes;
 
 pub use level::{
     Level, Want, applied_twice_is_once, levels_are_lawful, redo_page, what_is_kept_is_read_anew,
-    wrong_levels_are_refused,
 };
 pub use levels::Levels;
 pub use op::Op;
