@@ -168,10 +168,10 @@ impl<L: LogDevice> LogReader<L> {
         }
     }
 
-    /// Makes durable what the device reads as, taken or not.
+    /// Makes durable all that the device reads as, records that were not read yet, too. Where the reader stands does not change.
     ///
     /// # Errors
-    /// `DiskWrite`: the device failed.
+    /// `DiskWrite`, where the device failed.
     pub fn force(&mut self) -> Result<(), Refusal>
         ensures durable { OnOk result (Only (L.seen self.new.device) (L.may_leave self.new.device)) }
         ensures err { IfErr result (λ e. e ≡ Refusal.DiskWrite) }

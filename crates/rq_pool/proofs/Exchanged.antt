@@ -1,17 +1,11 @@
 -- A page takes the place of another in a frame, and is not fixed there.
-use Rattle.std.proofs.Common.{◌≡◌, ⊎_elim, ℕ, ◌-◌, ◌^◌, ◌<◌, ◌≤◌, Bool, true, false, List, length, slice_index_or, Option, inl, inr, refl, sym, ◌∙◌, ap, subst, arith}
+use Rattle.std.proofs.Common.{◌≡◌, ⊎_elim, ℕ, ◌-◌, ◌<◌, ◌≤◌, Bool, true, false, List, length, slice_index_or, Option, inl, inr, refl, sym, ◌∙◌, ap, subst, arith}
 use Rattle.std.proofs.lemmas.Bool.{cases_eq, true≢false}
 use Rattle.std.proofs.lemmas.List.{get_or-set_same, get_or-set_other, length-set}
-use Rattle.rq_model.specs.declared.refusal.Refusal.{Refusal}
-use Rattle.rq_model.specs.declared.refusal.Refusal.TheVariants as why
-use Rattle.rq_model.specs.declared.refusal.Damage.TheVariants as damage
-use Rattle.rq_disk.specs.declared.device.PageDevice.{Ghosts}
 use Rattle.rq_page.specs.Pages.{lsn_of}
-use Rattle.rq_pool.specs.Fixing.{IsBrought, IsLoose, IsSetIn, NotBrought, NotBroughtIn}
+use Rattle.rq_pool.specs.Fixing.{IsBrought, IsLoose, IsSetIn}
 use Rattle.rq_pool.specs.Frames.{AreTied, HasPage, IsFirstFixed, bytes_at, place_at}
 use Rattle.rq_pool.specs.Held.{Held, IsFixed, IsFramed, IsSetAt, fixed_at, nothing_held, page_at}
-use Rattle.rq_pool.specs.Pooled.{Pooled}
-use Rattle.rq_pool.proofs.KeptUp.{forced_more}
 use Rattle.rq_pool.proofs.Ties.{first_placed, some_eq}
 use Rattle.rq_pool.proofs.Wants.{set_here}
 
@@ -88,11 +82,3 @@ pub gives_way : (images : List (List ℕ)) (changed : List Bool) (places : List 
     → at < length frames → 1 ≤ at → forced ≡ lsn_of (bytes_at pages at) → IsLoose images forced frames at
 gives_way images changed places frames pages forced at tied first loose within behind is =
     record { within = within; free = unfixed images changed places frames pages at tied first loose within behind; lsn = (let there = (tied.there (page_at frames at) at (tied.back at within).back).bytes in let same = ap lsn_of there in omega (arith, is, same)) }
-
--- why it was not brought, where some frame has one that may give way
-pub not_brought_in : {P : Type 0} (g : Ghosts P) (forced page : ℕ) (e : Refusal) (old new : Pooled P) → forced ≤ 2 ^ 64 - 1 → (at : ℕ) → IsLoose old.images forced old.frames at → NotBrought g forced page e old new → NotBroughtIn g page e old new
-not_brought_in g forced page why.PoolFull old new few at loose h = h.0.none at loose
-not_brought_in g forced page why.DiskRead old new few at loose h = h
-not_brought_in g forced page why.DiskWrite old new few at loose h = (h.0, h.1, h.2, forced_more g forced (2 ^ 64 - 1) new h.1 h.2 few h.3, h.4)
-not_brought_in g forced page (why.Damaged (damage.Page n)) old new few at loose h = h
-not_brought_in g forced page _ old new few at loose h = absurd h

@@ -1,9 +1,10 @@
 -- Pages that all stand in frames, and pages that were read again one after the other.
 use Rattle.std.proofs.Common.{Some, false, ◌≡◌, ◌≢◌, ℕ, ◌+◌, ◌%◌, ◌^◌, ◌<◌, ◌≤◌, List, Result, refl, sym, ap, subst, arith, ◌∙◌, inl, inr, Ok, Err, ⊎_elim}
-use Rattle.std.proofs.lemmas.Bool.{false≢true}
+use Rattle.std.proofs.lemmas.Bool.{cases_eq, false≢true}
 use Rattle.rq_model.specs.declared.refusal.Damage.TheVariants as damage
 use Rattle.rq_model.specs.declared.refusal.Refusal.{Refusal}
 use Rattle.rq_model.specs.declared.refusal.Refusal.TheVariants as why
+use Rattle.rq_page.specs.Pages.{lsn_of}
 use Rattle.rq_page.specs.Sizes.{Sizes, page_count}
 use Rattle.rq_disk.specs.Device.{PageAsk}
 use Rattle.rq_disk.specs.declared.device.PageDevice.{Ghosts}
@@ -53,9 +54,9 @@ module _ {P : Type 0} (g : Ghosts P) where
 
   -- A page that is not at hand is read apart, or is not.
   module _ (n : ℕ) (old new : Pooled P) (behind : 1 ≤ n) (within : n < page_count old.sizes) (outside : IsFramed old.frames n → ⊥) (away : old.apart ≢ Some n) (clean : is_changed old.changed n ≡ false) (frames : new.frames ≡ old.frames) (changed : new.changed ≡ old.changed) (sizes : new.sizes ≡ old.sizes) (device : OnlyRead g old.device new.device) where
-    may_read : (g.honest new.device → new.images ≡ old.images) → AreFlaggedAlike old.sizes old.images new.images → ((p : ℕ) → p ≢ n → image_at new.images p ≡ image_at old.images p) → MayHaveRead g old new
-    may_read images flags others = record {
-      kept = λ forced. kept_read g forced old new device sizes images flags changed n clean others;
+    may_read : (g.honest new.device → new.images ≡ old.images) → lsn_of (image_at new.images n) ≡ lsn_of (image_at old.images n) → AreFlaggedAlike old.sizes old.images new.images → ((p : ℕ) → p ≢ n → image_at new.images p ≡ image_at old.images p) → MayHaveRead g old new
+    may_read images lsn flags others = record {
+      kept = λ forced. kept_read g forced old new device sizes images (λ p. elim (cases_eq p n) [ inl here ↦ subst (λ q. lsn_of (image_at new.images q) ≡ lsn_of (image_at old.images q)) (sym here) lsn | inr other ↦ ap lsn_of (others p other) ]) flags changed n clean others;
       frames = frames;
       changed = changed;
       device = device;
@@ -63,14 +64,14 @@ module _ {P : Type 0} (g : Ghosts P) where
       held = λ p framed. others p (λ (is : p ≡ n). outside (subst (λ (q : ℕ). IsFramed old.frames q) is framed));
     }
 
-    pub fetched_apart : {X : Type 0} (x : X) → new.apart ≡ Some n → (g.honest new.device → new.images ≡ old.images) → AreFlaggedAlike old.sizes old.images new.images → ((p : ℕ) → p ≢ n → image_at new.images p ≡ image_at old.images p)
+    pub fetched_apart : {X : Type 0} (x : X) → new.apart ≡ Some n → (g.honest new.device → new.images ≡ old.images) → lsn_of (image_at new.images n) ≡ lsn_of (image_at old.images n) → AreFlaggedAlike old.sizes old.images new.images → ((p : ℕ) → p ≢ n → image_at new.images p ≡ image_at old.images p)
         → g.faults new.device ≡ g.faults old.device → Fetches g n old (Ok x) new
-    fetched_apart x apart images flags others faults = record {
+    fetched_apart x apart images lsn flags others faults = record {
       stood = λ at. absurd (⊎_elim outside away at);
       hand = inr apart;
       refused = tt;
       counted = faults;
-      read = may_read images flags others;
+      read = may_read images lsn flags others;
       others = others;
     }
 
@@ -82,16 +83,16 @@ module _ {P : Type 0} (g : Ghosts P) where
           hand = tt;
           refused = refused;
           counted = tt;
-          read = may_read (λ h. images) (flagged_alike old.sizes old.images new.images images) others;
+          read = may_read (λ h. images) (ap (λ (l : List (List ℕ)). lsn_of (image_at l n)) images) (flagged_alike old.sizes old.images new.images images) others;
           others = others;
         }
 
-  -- of a store that an honest device holds no page is damaged, and the indexes tell of each
-  pub not_read_again : (z : Sizes) (free closed : List ℕ) (n : ℕ) (e : Refusal) (old new : P) → (g.honest new → IsSoundPage z n (g.seen old n)) → (g.honest new → AreNotedOn (free_cells z) z n (g.seen old n) free) → (g.honest new → AreNotedOn (closed_groups z) z n (g.seen old n) closed)
-      → NotReadAgain g z free closed n e old new → NotFetched g n e old new
-  not_read_again z free closed n why.DiskRead old new sound frees closes not = not
-  not_read_again z free closed n (why.Damaged (damage.Page m)) old new sound frees closes not = (not.0, (λ h. not.1 h (sound h) (frees h) (closes h)), not.2)
-  not_read_again z free closed n _ old new sound frees closes not = absurd not
+  -- of a store that an honest device holds no page is damaged, and the table and the indexes tell of each
+  pub not_read_again : (z : Sizes) (free closed : List ℕ) (n lsn : ℕ) (e : Refusal) (old new : P) → (g.honest new → lsn_of (g.seen old n) ≡ lsn) → (g.honest new → IsSoundPage z n (g.seen old n)) → (g.honest new → AreNotedOn (free_cells z) z n (g.seen old n) free) → (g.honest new → AreNotedOn (closed_groups z) z n (g.seen old n) closed)
+      → NotReadAgain g z free closed n lsn e old new → NotFetched g n e old new
+  not_read_again z free closed n lsn why.DiskRead old new stamped sound frees closes not = not
+  not_read_again z free closed n lsn (why.Damaged (damage.Page m)) old new stamped sound frees closes not = (not.0, (λ h. not.1 h (stamped h) (sound h) (frees h) (closes h)), not.2)
+  not_read_again z free closed n lsn _ old new stamped sound frees closes not = absurd not
 
   -- what is told of the page then is no matter
   pub fetched_as : {X Y : Type 0} (n m : ℕ) (x : X) (y : Y) (old new : Pooled P) → n ≡ m → Fetches g n old (Ok x) new → Fetches g m old (Ok y) new
@@ -116,10 +117,6 @@ module _ {P : Type 0} (g : Ghosts P) where
 
   pub unfetched_reads : {X Y : Type 0} (n : ℕ) (old new : Pooled P) (e : Refusal) → 1 ≤ n → n < page_count old.sizes → Fetches {X = X} g n old (Err e) new → HasReadFor {X = Y} g old (Err e) new
   unfetched_reads n old new e low high f = record { read = f.read; counted = tt; refused = fails_to_read n old new e (λ at. false≢true (f.stood at).0) low high f.refused }
-
-  -- nothing was
-  pub reads_none : {X : Type 0} (old new : Pooled P) (x : X) → new ≡ old → HasReadFor g old (Ok x) new
-  reads_none old new x same = subst (λ (s : Pooled P). HasReadFor g old (Ok x) s) (sym same) (record { read = still_read old; counted = refl; refused = tt })
 
   -- ---- pages that were read as they are stored
 

@@ -152,6 +152,3 @@ held_last old new ps all i within e =
 -- they stand where they stood
 pub framed_then : {P : Type 0} (b : Bool) (old new : Pooled P) (ps : List ℕ) (k : ℕ) (q : ℕ) → AreSetTo b old new ps k → IsFramed old.frames q → IsFramed new.frames q
 framed_then b old new ps k q set f = record { at = f.at; within = rw set.count f.within; is = set.same f.at ∙ f.is }
-
-pub framed_before : {P : Type 0} (b : Bool) (old new : Pooled P) (ps : List ℕ) (k : ℕ) (q : ℕ) → AreSetTo b old new ps k → IsFramed new.frames q → IsFramed old.frames q
-framed_before b old new ps k q set f = record { at = f.at; within = rw (← set.count) f.within; is = sym (set.same f.at) ∙ f.is }

@@ -15,7 +15,7 @@ use Rattle.rq_pool.specs.Reading.{OnlyRead}
 use Rattle.rq_pool.specs.Writing.{AnswersWhen, DeviceAfter, MayHaveWritten, changed_after}
 use Rattle.rq_pool.specs.declared.Written.{Written}
 use Rattle.rq_pool.specs.declared.Written.TheVariants.{Done, Nothing}
-use Rattle.rq_pool.specs.KeptUp.{IsForced, IsKeptUp, IsWrittenOut, MayBeKept}
+use Rattle.rq_pool.specs.KeptUp.{HaveSameLsns, IsForced, IsKeptUp, IsWrittenOut, MayBeKept}
 
 -- slots of the same images
 pub flagged_alike : (z : Sizes) (old new : List (List ℕ)) → new ≡ old → AreFlaggedAlike z old new
@@ -24,12 +24,16 @@ flagged_alike z old new same a = (
   ap (λ (l : List (List ℕ)). closed_flag (slots_in z l a)) same,
 )
 
+pub stamped_alike : (old new : List (List ℕ)) → new ≡ old → HaveSameLsns old new
+stamped_alike old new same p = ap (λ (l : List (List ℕ)). lsn_of (image_at l p)) same
+
 module _ {P : Type 0} (g : Ghosts P) (forced : ℕ) where
   -- nothing happened to the device
   pub kept_still : (old new : Pooled P) → new.device ≡ old.device → new.sizes ≡ old.sizes → new.images ≡ old.images → new.changed ≡ old.changed → IsKeptUp g forced old new
   kept_still old new device sizes images changed = record {
     sizes = sizes;
     images = λ h. images;
+    lsns = stamped_alike old.images new.images images;
     flags = flagged_alike old.sizes old.images new.images images;
     changed = λ p c. record { was = ap (λ (l : List Bool). is_changed l p) (sym changed) ∙ c; same = ap (λ (l : List (List ℕ)). image_at l p) images };
     written = λ p was is. absurd (true≢false (sym was ∙ ap (λ (l : List Bool). is_changed l p) (sym changed) ∙ is));
@@ -41,11 +45,12 @@ module _ {P : Type 0} (g : Ghosts P) (forced : ℕ) where
   }
 
   -- a page was read that was not changed, and no other image changed
-  pub kept_read : (old new : Pooled P) → OnlyRead g old.device new.device → new.sizes ≡ old.sizes → (g.honest new.device → new.images ≡ old.images) → AreFlaggedAlike old.sizes old.images new.images → new.changed ≡ old.changed
+  pub kept_read : (old new : Pooled P) → OnlyRead g old.device new.device → new.sizes ≡ old.sizes → (g.honest new.device → new.images ≡ old.images) → HaveSameLsns old.images new.images → AreFlaggedAlike old.sizes old.images new.images → new.changed ≡ old.changed
       → (n : ℕ) → is_changed old.changed n ≡ false → ((p : ℕ) → p ≢ n → image_at new.images p ≡ image_at old.images p) → IsKeptUp g forced old new
-  kept_read old new read sizes images flags changed n clean others = record {
+  kept_read old new read sizes images lsns flags changed n clean others = record {
     sizes = sizes;
     images = images;
+    lsns = lsns;
     flags = flags;
     changed = λ p c.
         let was : is_changed old.changed p ≡ true = ap (λ (l : List Bool). is_changed l p) (sym changed) ∙ c in
@@ -68,6 +73,7 @@ module _ {P : Type 0} (g : Ghosts P) (forced : ℕ) where
   kept_written old new n wrote was lsn sizes images fewer off = record {
     sizes = sizes;
     images = λ h. images;
+    lsns = stamped_alike old.images new.images images;
     flags = flagged_alike old.sizes old.images new.images images;
     changed = λ p c. record { was = fewer p c; same = ap (λ (l : List (List ℕ)). image_at l p) images };
     written = λ p changed is.
@@ -117,6 +123,7 @@ module _ {P : Type 0} (g : Ghosts P) (forced : ℕ) (old mid new : Pooled P) (a 
   kept_then = record {
     sizes = b.sizes ∙ a.sizes;
     images = λ h. b.images h ∙ a.images (b.honest h);
+    lsns = λ p. b.lsns p ∙ a.lsns p;
     flags = λ at.
         let before = a.flags at in
         let then_on = subst (λ (z : Sizes). AreFlaggedAlike z mid.images new.images) a.sizes b.flags at in
@@ -169,6 +176,7 @@ pub kept_more : {P : Type 0} (g : Ghosts P) (few many : ℕ) (old new : Pooled P
 kept_more g few many old new le up = record {
   sizes = up.sizes;
   images = up.images;
+  lsns = up.lsns;
   flags = up.flags;
   changed = λ p c. (let s = up.changed p c in record { was = s.was; same = s.same });
   written = λ p was is. (let w = up.written p was is in record { lsn = (let low = w.lsn in omega (arith, low, le)); reads = w.reads });

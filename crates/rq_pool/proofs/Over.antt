@@ -84,18 +84,7 @@ module _ {P : Type 0} (g : Ghosts P) (z : Sizes) (images : List (List ℕ)) (cha
     ];
   }
 
-  -- a page that was changed was perhaps written
-  pub over_failed : (n : ℕ) → is_changed changed n ≡ true → (g.honest new → g.honest old) → ((p : ℕ) → p ≢ n → g.seen new p ≡ g.seen old p) → AreOver g new z images changed
-  over_failed n was falls others = record {
-    pool = over.pool;
-    flags = over.flags;
-    clean = λ h p lt same. elim (cases_eq p n) [
-      | inl here ↦ absurd (true≢false (sym was ∙ ap (is_changed changed) (sym here) ∙ same))
-      | inr other ↦ over.clean (falls h) p lt same ∙ sym (others p other)
-    ];
-  }
-
-  -- the same, and it counts as changed from then on
+  -- a page was perhaps written, and counts as changed from then on
   pub over_marked : (n : ℕ) → n < page_count z → (g.honest new → g.honest old) → ((p : ℕ) → p ≢ n → g.seen new p ≡ g.seen old p) → AreOver g new z images (slice_set changed n true)
   over_marked n high falls others = record {
     pool = over.pool;

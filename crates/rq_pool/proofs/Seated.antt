@@ -7,17 +7,14 @@ use Rattle.rq_page.specs.Pages.{IsWritten, lsn_of, slot_of}
 use Rattle.rq_page.specs.Formatted.{IsHeaderOf}
 use Rattle.rq_page.specs.Slots.{IsSlotOf}
 use Rattle.rq_pool.specs.Reading.{IsSoundPage}
-use Rattle.rq_pool.specs.Pooled.{IsPool, Pooled, image_at, is_changed}
+use Rattle.rq_pool.specs.Pooled.{Pooled, image_at, is_changed}
 use Rattle.rq_pool.specs.Writing.{IsUnwritten}
 use Rattle.rq_pool.specs.declared.Entry.{Entry}
 use Rattle.rq_pool.specs.declared.Frame.{Frame}
 use Rattle.rq_pool.specs.Held.{IsFramed, page_at}
-use Rattle.rq_pool.specs.Frames.{AreTied, changed_of, frames_of, held_of, image_of, images_of, page_in, pages_of, place_at, places_of}
+use Rattle.rq_pool.specs.Frames.{AreTied, changed_of, frames_of, held_of, images_of, page_in, pages_of, place_at, places_of}
 use Rattle.rq_pool.proofs.Tabled.{read_at}
 use Rattle.rq_pool.proofs.Ties.{framed_place, framed_there}
-
-pub entries_count : (entries : List Entry) (z : Sizes) → IsPool z (images_of entries) → length entries ≡ page_count z
-entries_count entries z pool = sym (length-map entries image_of) ∙ pool.count
 
 module _ (entries : List Entry) (frames : List Frame) (tied : AreTied (images_of entries) (changed_of entries) (places_of entries) (frames_of frames) (pages_of frames)) (p i : ℕ) (placed : place_at (places_of entries) p ≡ Some i) where
   pub within : i < length frames

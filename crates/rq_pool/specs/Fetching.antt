@@ -6,6 +6,7 @@ use Rattle.rq_model.specs.declared.refusal.Damage.TheVariants as damage
 use Rattle.rq_disk.specs.Device.{PageAsk}
 use Rattle.rq_disk.specs.Device.PageAsk.{Reads}
 use Rattle.rq_disk.specs.declared.device.PageDevice.{Ghosts}
+use Rattle.rq_page.specs.Pages.{lsn_of}
 use Rattle.rq_page.specs.Sizes.{Sizes, page_count}
 use Rattle.rq_pool.specs.Pooled.{Pooled, image_at}
 use Rattle.rq_pool.specs.Held.{IsFramed}
@@ -51,15 +52,16 @@ pub record HasFailed {P : Type 0} (g : Ghosts P) (ask : PageAsk) (old new : P) :
   pub none : g.faults before ≡ g.faults old
   pub excused : g.excuse ask before new
 
--- Why a page was not read once more: its device failed in that. Or, if it is honest, it gave no page of the store, or another than
--- the indexes tell of.
-abbrev pub NotReadAgain : {P : Type 0} → Ghosts P → Sizes → (free closed : List ℕ) → ℕ → Refusal → P → P → Type 0
-NotReadAgain g z free closed page why.DiskRead old new = HasFailed g (Reads page) old new
-NotReadAgain g z free closed page (why.Damaged (damage.Page n)) old new = (n ≡ page)
-    × (g.honest new → IsSoundPage z page (g.seen old page) → AreNotedOn (free_cells z) z page (g.seen old page) free
+-- Why a page was not read once more, which had this LSN: its device failed in that. Or, if it is honest, it gave a page with another
+-- LSN, or no page of the store, or another than the indexes tell of.
+abbrev pub NotReadAgain : {P : Type 0} → Ghosts P → Sizes → (free closed : List ℕ) → (page lsn : ℕ) → Refusal → P → P → Type 0
+NotReadAgain g z free closed page lsn why.DiskRead old new = HasFailed g (Reads page) old new
+NotReadAgain g z free closed page lsn (why.Damaged (damage.Page n)) old new = (n ≡ page)
+    × (g.honest new → lsn_of (g.seen old page) ≡ lsn
+    → IsSoundPage z page (g.seen old page) → AreNotedOn (free_cells z) z page (g.seen old page) free
     → AreNotedOn (closed_groups z) z page (g.seen old page) closed → ⊥)
     × (g.faults new ≡ g.faults old)
-NotReadAgain g z free closed page _ old new = ⊥
+NotReadAgain g z free closed page lsn _ old new = ⊥
 
 -- why a page was not read: its device failed in that, or is not honest
 abbrev pub NotFetched : {P : Type 0} → Ghosts P → ℕ → Refusal → P → P → Type 0

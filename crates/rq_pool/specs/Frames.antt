@@ -14,14 +14,14 @@ abbrev pub images_of : List Entry → List (List ℕ)
 images_of entries = map image_of entries
 
 abbrev pub was_changed : Entry → Bool
-was_changed entry = entry.standing.changed
+was_changed entry = entry.seat.changed
 
 abbrev pub changed_of : List Entry → List Bool
 changed_of entries = map was_changed entries
 
 -- the frame in which a page stands
 abbrev pub place_in : Entry → Option ℕ
-place_in entry = entry.standing.frame
+place_in entry = entry.seat.frame
 
 abbrev pub places_of : List Entry → List (Option ℕ)
 places_of entries = map place_in entries

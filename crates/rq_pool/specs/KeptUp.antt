@@ -7,6 +7,10 @@ use Rattle.rq_page.specs.Pages.{lsn_of}
 use Rattle.rq_pool.specs.Indexed.{AreFlaggedAlike}
 use Rattle.rq_pool.specs.Pooled.{Pooled, image_at, is_changed}
 
+-- each page has the LSN that it had
+abbrev pub HaveSameLsns : (old new : List (List ℕ)) → Type 0
+HaveSameLsns old new = (p : ℕ) → lsn_of (image_at new p) ≡ lsn_of (image_at old p)
+
 module _ {P : Type 0} (g : Ghosts P) (forced : ℕ) where
   -- the image of a page that was changed, where its last record is forced
   pub record IsForced (old : Pooled P) (p : ℕ) (c : List ℕ) : Type 0 where
@@ -28,13 +32,14 @@ module _ {P : Type 0} (g : Ghosts P) (forced : ℕ) where
     pub lsn : lsn_of (image_at old.images p) ≤ forced
     pub reads : g.seen new.device p ≡ image_at old.images p
 
-  -- Pages are kept up. Where the device is honest, each has its image; whatever it is, the same cells are free, and the same groups
-  -- closed. None counts as changed that did not, and one that does so
-  -- no more is written out. The device reads each that did not count as changed as before. A crash, now or at any moment of it,
-  -- leaves of each what it might have left, or its image, if that was changed and is forced.
+  -- Pages are kept up. Where the device is honest, each has its image. Whatever it is, each has its LSN, the same cells are free, and
+  -- the same groups closed. None counts as changed that did not, and one that does so no more is written out. The device reads each
+  -- that did not count as changed as before. Of each, a crash at any moment leaves what it might have left, or its image, if that was
+  -- changed and is forced.
   pub record IsKeptUp (old new : Pooled P) : Type 0 where
     pub sizes : new.sizes ≡ old.sizes
     pub images : g.honest new.device → new.images ≡ old.images
+    pub lsns : HaveSameLsns old.images new.images
     pub flags : AreFlaggedAlike old.sizes old.images new.images
     pub changed : (p : ℕ) → is_changed new.changed p ≡ true → StaysChanged old new p
     pub written : (p : ℕ) → is_changed old.changed p ≡ true → is_changed new.changed p ≡ false → IsWrittenOut old new p

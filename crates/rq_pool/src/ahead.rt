@@ -1,4 +1,5 @@
-//! The number of a page, and which pages have a greater one than their LSN.
+//! The number of a page: the greatest of its LSN and of what its slots count. It tells which pages have another number than
+//! their LSN.
 ghost use Rattle.std.specs.Prelude.{◌≡◌, ◌≢◌, ◌≤◌, ◌+◌, ℕ, IfErr, OnOk};
 ghost use Rattle.rq_pool.specs.Numbered.{IsNumberOf, number_in, number_on};
 
@@ -6,16 +7,16 @@ use rq_model::refusal::Refusal;
 use rq_page::layout::{Layout, SLOTS};
 use rq_page::page::Page;
 
-/// A page with a slot that counts more than the page's LSN. No page is so that a store wrote.
+/// A page with a slot that counts more than its LSN. No store has written one.
 #[derive(Clone, Copy)]
 pub struct Ahead {
-    /// The page.
+    /// Which page.
     pub page: u32,
-    /// The greatest number in it.
+    /// Its number, which is the greatest that a slot of it counts.
     pub number: u64,
 }
 
-/// Notes of a page whether a slot of it counts more than its LSN.
+/// Notes a page, with its number, where that is greater than its LSN.
 ///
 /// # Errors
 /// `NoMemory`.

@@ -10,7 +10,7 @@ ghost use Rattle.rq_pool.specs.Pooled.{image_at};
 
 use crate::Pages;
 use crate::reading::read_again;
-use crate::table::{place_of, set_image};
+use crate::table::{lsn_of_page, place_of, set_image};
 use rq_disk::PageDevice;
 use rq_model::record::Slot;
 use rq_model::refusal::Refusal;
@@ -24,8 +24,8 @@ impl<P: PageDevice> Pages<P> {
     /// Has a page be at hand, in a frame or apart. What stands in no frame is read.
     ///
     /// # Errors
-    /// `DiskRead`. `Damaged`, where the device has lied: what it gave is no page of the store, or has other free cells or closed
-    /// groups.
+    /// `DiskRead`. `Damaged`, where the device has lied: what it gave is no page of the store, or has another LSN, other free cells or
+    /// closed groups.
     #[inline(always)]
     pub fn look(&mut self, number: u32) -> Result<(), Refusal>
         requires low { 1 ≤ number }
@@ -203,6 +203,7 @@ impl<P: PageDevice> Pages<P> {
         ensures apart { OnOk result (self.new.apart ≡ Some number) }
         ensures fetched { Fetches P.PageDevice number self.old result self.new }
     {
+        let lsn = lsn_of_page(&self.entries, number);
         self.apart = None;
         let read = read_again(
             &mut self.device,
@@ -210,6 +211,7 @@ impl<P: PageDevice> Pages<P> {
             &self.free,
             &self.closed,
             number,
+            lsn,
             &mut self.spare,
         );
         match read {

@@ -31,7 +31,7 @@ use crate::frame_count::FrameCount;
 use crate::frames::{redo_frame, write_slot};
 use crate::notes::{note_cell, note_group};
 use crate::reading::{read_frames, read_superblock};
-use crate::table::{HalvedLsn, Standing, lsn_of_page, mark, set_image, was_changed};
+use crate::table::{HalvedLsn, Seat, lsn_of_page, mark, set_image, was_changed};
 use crate::writing::write;
 use rq_bitset::Index;
 use rq_disk::{PAGE, PageDevice};
@@ -55,7 +55,7 @@ pub struct Entry {
     /// The LSN of its image.
     pub lsn: HalvedLsn,
     /// The frame in which it stands, and whether it was changed since it was read or written.
-    pub standing: Standing,
+    pub seat: Seat,
     ghost stamp: { lsn ≡ lsn_of image.value },
 }
 
@@ -141,11 +141,11 @@ impl<P: PageDevice + Drop> Pages<P> {
     ghost use Rattle.rq_pool.specs.Reading.{ArePages, AreSeen, OnlyRead, StopsFor, device_of};
 
     /// Reads every page, and checks each as it is read: the superblock, then each page's header and slots. The first stand in so many
-    /// frames beside that of the superblock, and the others in none. Gives the pages, too, of which a slot counts more than the LSN.
+    /// frames beside that of the superblock, and the others in none. Answers, too, the pages whose number is greater than their LSN.
     ///
     /// # Errors
-    /// `DiskRead`; `Damaged` with the number of the first page that is none of a store's; `NoMemory`, where the superblock
-    /// tells the sizes.
+    /// `DiskRead`. `Damaged` with the number of the first page that is none of a store's. `NoMemory`, once the superblock has told the
+    /// sizes.
     pub fn load(
         alloc: Global,
         mut device: P,

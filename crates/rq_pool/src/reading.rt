@@ -4,6 +4,7 @@ ghost use Rattle.std.specs.Bool.{OnTrue};
 ghost use Rattle.rq_page.specs.Sizes.{page_count};
 ghost use Rattle.rq_page.specs.Kinds.{kind_of};
 ghost use Rattle.rq_page.specs.Cells.{free_bytes};
+ghost use Rattle.rq_page.specs.Pages.{lsn_of};
 ghost use Rattle.rq_page.specs.Slots.{IsSlotOf};
 ghost use Rattle.rq_page.specs.declared.layout.PageKind.TheVariants as kind;
 ghost use Rattle.rq_disk.specs.Device.PageAsk.{Reads};
@@ -16,13 +17,14 @@ ghost use Rattle.rq_pool.specs.Reading.{OnlyRead, IsSuperblock, IsSoundPage, Are
 
 use crate::ahead::{Ahead, note_ahead};
 use crate::notes::{are_noted, note_page};
-use crate::table::{HalvedLsn, Standing};
+use crate::table::{HalvedLsn, Seat};
 use crate::{Entry, Frame};
 use rq_bitset::Index;
 use rq_bytes::equal::are_equal;
 use rq_disk::{PAGE, PageDevice};
 use rq_model::record::Slot;
 use rq_model::refusal::{Damage, Refusal};
+use rq_model::txn::Lsn;
 use rq_page::cell::CellSlot;
 use rq_page::layout::{Layout, PageKind, SLOTS};
 use rq_page::page::Page;
@@ -44,8 +46,8 @@ pub(crate) fn read_superblock<P: PageDevice>(device: &mut P) -> Result<(Page, La
     }
 }
 
-/// Reads the pages behind the first, and checks each as it is read. So many stand in frames, with the first. Beside the table of them and
-/// the frames, which cells are free and which groups are closed, and which pages have a greater number than their LSN.
+/// Reads the pages behind the first, and checks each as it is read. Answers the table of pages, and the frames, in which the first so
+/// many of them stand. Answers, too, the free cells, the closed groups, and the pages with a greater number than their LSN.
 pub(crate) fn read_frames<P: PageDevice>(
     alloc: Global,
     device: &mut P,
@@ -98,25 +100,31 @@ pub(crate) fn read_frames<P: PageDevice>(
     Ok((entries, frames, free, closed, ahead))
 }
 
-/// Reads a page behind the first once more, over another. It has to be one of a store that the indexes tell of.
+/// Reads a page behind the first once more, over another. It has to be one of the store, with the LSN that it had. Its free cells and
+/// closed groups have to be those that the indexes tell of.
 pub(crate) fn read_again<P: PageDevice>(
     device: &mut P,
     layout: &Layout,
     free: &Index,
     closed: &Index,
     number: u32,
+    lsn: Lsn,
     page: &mut Page,
 ) -> Result<(), Refusal>
     ensures ok { OnOk result ((P.honest device.new → page.new ≡ P.seen device.old number)
         × IsSoundPage layout.now number page.new) }
+    ensures lsn { OnOk result (lsn_of page.new ≡ lsn) }
     ensures free { OnOk result (AreNotedOn (free_cells layout.now) layout.now number page.new free.now) }
     ensures closed { OnOk result (AreNotedOn (closed_groups layout.now) layout.now number page.new closed.now) }
     ensures cause { OnOk result (P.faults device.new ≡ P.faults device.old) }
-    ensures err { IfErr result (λ e. NotReadAgain P.PageDevice layout.now free.now closed.now number e device.old device.new) }
+    ensures err { IfErr result (λ e. NotReadAgain P.PageDevice layout.now free.now closed.now number lsn e device.old device.new) }
     ensures device { OnlyRead P.PageDevice device.old device.new }
 {
     read_into(device, number, page)?;
-    if is_sound(layout, number, page) && are_noted(free, closed, layout, page, number) {
+    if page.lsn() == lsn
+        && is_sound(layout, number, page)
+        && are_noted(free, closed, layout, page, number)
+    {
         Ok(())
     } else {
         Err(Refusal::Damaged(Damage::Page(number)))
@@ -168,7 +176,7 @@ fn add_page(
         let entry = Entry {
             image: Snapshot::of(page),
             lsn: HalvedLsn::new(page.lsn()),
-            standing: Standing::new(None, false),
+            seat: Seat::new(None, false),
         };
         return match entries.push(entry) {
             Ok(()) => Ok(()),
@@ -178,7 +186,7 @@ fn add_page(
     let entry = Entry {
         image: Snapshot::of(page),
         lsn: HalvedLsn::new(page.lsn()),
-        standing: Standing::new(Some(number), false),
+        seat: Seat::new(Some(number), false),
     };
     let frame = Frame {
         number,

@@ -47,12 +47,12 @@ impl HalvedLsn {
 
 /// The frame in which a page stands, or none, and whether the page was changed, in four bytes.
 #[derive(Drop)]
-pub struct Standing {
+pub struct Seat {
     // Twice the frame's number counted from 1 on, or 0 where there is none; and 1 more where the page was changed.
     code: u32,
 }
 
-impl Model for Standing {
+impl Model for Seat {
     ghost use Rattle.rq_pool.specs.Places.{Placed, placed_by};
 
     ghost Value = { Placed };
@@ -60,9 +60,9 @@ impl Model for Standing {
     ghost view = { λ s. placed_by s.code };
 }
 
-impl Standing {
-    /// Of a page in this frame, if it stands in one.
-    pub fn new(frame: Option<u32>, changed: bool) -> Standing
+impl Seat {
+    /// Of a page that stands in this frame, or in none.
+    pub fn new(frame: Option<u32>, changed: bool) -> Seat
         requires { IfSome frame (λ i. i < 2147483647) }
         ensures { result ≡ record { frame = frame; changed = changed } }
     {
@@ -70,7 +70,7 @@ impl Standing {
             Some(number) => number + 1,
             None => 0,
         };
-        Standing {
+        Seat {
             code: behind * 2 + if changed { 1 } else { 0 },
         }
     }
@@ -110,7 +110,7 @@ pub(crate) fn place_of(entries: &[Entry], number: u32) -> Option<u32>
     ensures { result ≡ place_at (places_of entries.now) number }
 {
     let entry = &entries[number as usize];
-    entry.standing.frame()
+    entry.seat.frame()
 }
 
 /// The LSN of a page.
@@ -127,7 +127,7 @@ pub(crate) fn was_changed(entries: &[Entry], number: u32) -> bool
     ensures { result ≡ is_changed (changed_of entries.now) number }
 {
     let entry = &entries[number as usize];
-    entry.standing.changed()
+    entry.seat.changed()
 }
 
 /// Has a page count as changed, or not.
@@ -139,7 +139,7 @@ pub(crate) fn mark(entries: &mut Vec<Entry>, number: u32, changed: bool)
     ensures count { length entries.new.items ≡ length entries.old.items }
 {
     let entry = &mut entries[number as usize];
-    entry.standing.mark(changed);
+    entry.seat.mark(changed);
 }
 
 /// Has a page stand in a frame, or in none.
@@ -152,7 +152,7 @@ pub(crate) fn set_place(entries: &mut Vec<Entry>, number: u32, place: Option<u32
     ensures count { length entries.new.items ≡ length entries.old.items }
 {
     let entry = &mut entries[number as usize];
-    entry.standing = Standing::new(place, entry.standing.changed());
+    entry.seat = Seat::new(place, entry.seat.changed());
 }
 
 /// Has this be the image of a page. Of its bytes the LSN alone is kept.

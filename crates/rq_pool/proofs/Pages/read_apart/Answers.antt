@@ -1,5 +1,6 @@
 use Rattle.std.proofs.Common.{◌∙◌, ◌<◌, ℕ, List, [], length, slice_set, refl, sym, ap, subst}
 use Rattle.std.proofs.lemmas.List.{get_or-set_same, get_or-set_other, length-set, set-get_or}
+use Rattle.rq_page.specs.Pages.{lsn_of}
 use Rattle.rq_pool.specs.Frames.{changed_of, images_of, places_of}
 use Rattle.rq_pool.specs.Indexed.{closed_groups, free_cells}
 use Rattle.rq_pool.specs.Pooled.{image_at}
@@ -56,6 +57,7 @@ returns-in-Ok-clause-fetched g c =
     let closed = index_read (closed_groups z) z (groups_stand z) images s.closed n page within i.2 read.closed in
     rw (← c.self.view_is) (fetched_apart P n _ _ c.requires.low high outside away clean refl set.changed refl read.device _ refl
     (λ h. set.images ∙ ap (λ (b : List ℕ). slice_set images n b) (page_fixed P z images changed s.device c.read_again-read.new.device i.0 n page high clean read.device read.ok.0 h) ∙ set-get_or images n [])
+    (ap lsn_of (ap (λ (l : List (List ℕ)). image_at l n) set.images ∙ get_or-set_same images n page [] within) ∙ read.lsn ∙ rw c.deref.ensures.value at c.lsn_of_page-lsn.ensures)
     (rw (set.images) (indexed_alike z images new s.free s.closed i.1 free i.2 closed))
     (λ p ne. ap (λ (l : List (List ℕ)). image_at l p) set.images ∙ get_or-set_other images n p page [] ne) read.cause)
 
@@ -76,7 +78,8 @@ returns-in-Err-clause-fetched g c =
     let e = c.in-Err.ensures in
     let is = λ (h : P.honest c.read_again-read.new.device). i.0.clean (e.device.honest h) n high clean in
     rw (← c.self.view_is) (not_fetched P n _ _ c.requires.low high outside away clean refl refl refl e.device c.in-Err.refusal refl
-    (not_read_again P z s.free s.closed n c.in-Err.refusal s.device c.read_again-read.new.device
+    (not_read_again P z s.free s.closed n c.lsn_of_page-lsn.result c.in-Err.refusal s.device c.read_again-read.new.device
+    (λ h. ap lsn_of (sym (is h)) ∙ sym (rw c.deref.ensures.value at c.lsn_of_page-lsn.ensures))
     (λ h. subst (IsSoundPage z n) (is h) (page_sound z images n i.0.pool c.requires.low high))
     (λ h. index_tells (free_cells z) z (cells_stand z) images s.free n _ i.1 (is h))
     (λ h. index_tells (closed_groups z) z (groups_stand z) images s.closed n _ i.2 (is h)) e.err))
