@@ -5,8 +5,7 @@ use Rattle.rq_model.specs.declared.message.Message.{Message}
 use Rattle.rq_page.specs.declared.cell.Cell.{Cell}
 use Rattle.rq_views.specs.Chain.{Cells, Node, Linked, first, message}
 use Rattle.rq_views.specs.Committed.{message_of}
-use Rattle.rq_page.specs.Sizes.{Sizes}
-use Rattle.rq_content.specs.Read.{met, message_in, follow, cells_in}
+use Rattle.rq_content.specs.Read.{met, message_in, follow}
 
 pub met_none : (m : Cells) (s at n : ℕ) → m at ≡ None → met m s at n ≡ []
 met_none m s at zero e = refl
@@ -40,7 +39,3 @@ met_linked m s p q [] z (suc n) h le = absurd (omega (arith, le))
 met_linked m s p q (x ∷ ns) z (suc n) h le =
     met_more m s x.at n (record { sender = s; sequence = q; tag = x.tag; body = x.body; next = first ns z; prev = p }) h.1
     ∙ ap (λ l. message_of s (message x) ∷ l) (met_linked m s x.at (q + 1) ns z n h.2 (omega (arith, le)))
-
--- no cell stands at the address of none
-pub none_at : (z : Sizes) (images : List (List ℕ)) (a : ℕ) → a ≡ 0 → cells_in z images a ≡ None
-none_at z images a e = ap (cells_in z images) e

@@ -339,7 +339,3 @@ kept_device s f g o res left forced failed log k same room fails = record {
   sent = subst (λ (l : List Record). AreSendsConsistent s.sizes (length l) (sum_by done_one s.rows) s.sent) (sym same) k.sent;
   ended = λ r y i j. subst (λ (l : List Record). IsLogged l y.lsn (end_of r.txn y)) (sym same) (k.ended r y i j);
 }
-
--- the ends are of no account to it, nor is room that was taken and given back
-pub kept_back : (s : State) (f : Bool) (o res left : ℕ) (ends : HeldEnds) → IsConsistent s f o res → left ≡ res → IsConsistent (record s { ends = ends }) f o left
-kept_back s f o res left ends k e = record { incarnation = k.incarnation; low = k.low; fails = k.fails; owes = k.owes; room = (let a = k.room in omega (arith, a, e)); count = k.count; distinct = k.distinct; rows = k.rows; senders = k.senders; few = k.few; sent = k.sent; ended = k.ended }

@@ -237,13 +237,6 @@ not_failed_by failed _ e = e
 
 -- why pages could not be fixed
 module _ {P : Type 0} (g : page_device.Ghosts P) (forced : ℕ) (ps : List ℕ) where
-  pub not_fixed_causes : (old new : Pooled P) (r : Refusal) → NotFixed g forced ps r old new → NotBegun (g.honest new.device) r
-  not_fixed_causes old new why.PoolFull n = tt
-  not_fixed_causes old new why.DiskRead n = tt
-  not_fixed_causes old new why.DiskWrite n = tt
-  not_fixed_causes old new (why.Damaged (Page p)) n = n.1
-  not_fixed_causes old new _ n = absurd n
-
   pub not_fixed_frames : (X : Type 0) (old new : Pooled P) (r : Refusal) → (CannotBeHad old forced ps → OutnumberFrames old forced ps) → NotFixed g forced ps r old new → IsForFrames {X = X} old forced ps (Err r)
   not_fixed_frames X old new why.PoolFull counted n = counted n.0
   not_fixed_frames X old new why.DiskWrite counted n = λ all. n.4.outside (all n.4.page n.5)
