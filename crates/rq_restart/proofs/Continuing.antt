@@ -13,7 +13,7 @@ use Rattle.rq_log.specs.Logged.{Logged}
 use Rattle.rq_log.specs.Reading.{BeginsWith, IsRead}
 use Rattle.rq_log.proofs.Keeping.{read_twice}
 use Rattle.rq_page.specs.Sizes.{Sizes}
-use Rattle.rq_pool.specs.Fetching.{AreAllFramed, IsReadAsStored}
+use Rattle.rq_pool.specs.Fetching.{AreAllFramed}
 use Rattle.rq_pool.specs.Pooled.{Pooled}
 use Rattle.rq_restart.specs.Leaving.{LeavesRepeated, LeavesSound, WasLeftOrRepeated}
 use Rattle.rq_restart.specs.Repeating.{Repeats, paged}
@@ -23,8 +23,8 @@ use Rattle.rq_restart.specs.Refused.{IsStoppedBehind, WhyShut}
 use Rattle.rq_restart.specs.Restarting.{BeginsAtMost, Continues, IsLogRead, LeavesLog, RefusesLog}
 use Rattle.rq_restart.specs.RolledBack.{HasRepeated}
 use Rattle.rq_restart.specs.Undoing.{FailsWith, GoesOn, HaveBeenHonest, HaveToldTruly, IsRepeatedOn, NoneFailed, failures}
-use Rattle.rq_restart.proofs.GoingOn.{pages_since}
-use Rattle.rq_restart.proofs.Marking.{marked_twice}
+use Rattle.rq_restart.proofs.GoingOn.{no_shorter, pages_since}
+use Rattle.rq_restart.proofs.Marking.{marked_longer, marked_twice}
 use Rattle.rq_restart.specs.Telling.{GoesOnTelling}
 use Rattle.rq_restart.proofs.Moments.{begins_at_most, only_read}
 use Rattle.rq_restart.proofs.Sounding.{sound_then}
@@ -74,7 +74,7 @@ module _ {P L X : Type 0} (p : page_device.Ghosts P) (l : log_device.Ghosts L) (
     sizes = one.sizes;
     count = one.count;
     held = one.held;
-    marked = one.marked;
+    marked = marked_longer (length records) (length now) a b (no_shorter behind records now more) one.marked;
     pages_honest = one.pages_honest;
     log_honest = λ h. one.log_honest (honest h);
     stood = λ all. (one.stood all).device;
@@ -90,7 +90,7 @@ module _ {P L X : Type 0} (p : page_device.Ghosts P) (l : log_device.Ghosts L) (
       sizes = two.sizes ∙ one.sizes;
       count = two.count ∙ one.count;
       held = λ free. two.held (one.held free);
-      marked = λ told. marked_twice a b c (one.marked (before told)) (two.marked (after told));
+      marked = marked_twice (length records) (length now_records) a b c (no_shorter two.behind.0 records now_records two.behind.1) one.marked two.marked;
       pages_honest = λ h. one.pages_honest (two.pages_honest h);
       log_honest = λ h. one.log_honest (two.log_honest h);
       stood = λ all. (let then = one.stood all in two.stood then.framed ∙ then.device);
@@ -100,12 +100,7 @@ module _ {P L X : Type 0} (p : page_device.Ghosts P) (l : log_device.Ghosts L) (
           let then : HaveBeenHonest p l b.device y = (two.pages_honest h.0, two.log_honest h.1) in
           let there : Repeats b.sizes records first (paged b) = subst (λ (k : Sizes). Repeats k records first (paged b)) (sym one.sizes) (repeated (inr then.0, then.1) first start) in
           leaves_both p a.sizes first records now_records two.behind.0 two.behind.1 a.device b.device c.device (one.leaves then first start) (subst (λ (k : Sizes). LeavesRepeated p k first now_records b.device c.device) one.sizes (two.leaves h first there));
-    } where
-      before : IsReadAsStored p a c → IsReadAsStored p a b
-      before = ⊎_elim (λ all. inl all) (λ h. inr (two.pages_honest h))
-
-      after : IsReadAsStored p a c → IsReadAsStored p b c
-      after = ⊎_elim (λ all. inl (one.stood all).framed) (λ h. inr h)
+    }
 
 -- nothing failed before
 pub fails_behind : {P L : Type 0} (p : page_device.Ghosts P) (l : log_device.Ghosts L) (a b c : P) (x y z : L) → NoneFailed p l a x b y → (e : Refusal) → FailsWith p b c e (failures l.faults y z) → FailsWith p a c e (failures l.faults x z)

@@ -5,8 +5,9 @@ use Rattle.rq_model.specs.declared.refusal.Refusal.{Refusal}
 use Rattle.rq_model.specs.declared.refusal.Refusal.TheVariants as why
 use Rattle.rq_model.specs.declared.refusal.Damage.TheVariants as damage
 use Rattle.rq_disk.specs.declared.device.LogDevice.{Ghosts}
-use Rattle.rq_log.specs.Reading.{BeginsWith, HasMoreBehind, IsDamagedBehind, IsRead, StopsFor}
-use Rattle.rq_log.specs.Spelled.{AreSpelled, spelled, spelled_all}
+use Rattle.rq_log.specs.Reading.{BeginsWith, HasMoreBehind, IsDamagedBehind, IsReading, LogRead, StopsFor}
+use Rattle.rq_log.specs.Spelled.{AreAllSpelled, AreSpelled, spelled, spelled_all}
+use Rattle.rq_log.proofs.Keeping.{front_begins}
 use Rattle.rq_model.specs.declared.record.Record.{Record}
 use Rattle.rq_page.specs.Sizes.{Sizes}
 use Rattle.rq_store.specs.Opening.{FitsUpTo, IsLeft, MayRedo}
@@ -20,7 +21,7 @@ use Rattle.rq_analysis.specs.Numbers.{numbers_after}
 use Rattle.rq_analysis.specs.LogTables.{ended_after}
 use Rattle.rq_model.specs.declared.record.Record.TheVariants as records
 use Rattle.rq_model.specs.Bases.{base_lsn, is_base, marked, marks, standing}
-use Rattle.rq_model.proofs.Bases.{standing_plain}
+use Rattle.rq_model.proofs.Bases.{next_plain, standing_plain}
 use Rattle.rq_model.specs.Incarnations.{IsNext}
 use Rattle.rq_analysis.specs.Rules.{IsNextIn}
 use Rattle.rq_analysis.proofs.Marked.{marked_incarnation, marked_length}
@@ -30,7 +31,7 @@ use Rattle.rq_restart.specs.Found.{IsAnalysisOf, analysis_after}
 use Rattle.rq_restart.specs.Refused.{IsBadNext, IsNotForced, IsStoppedBehind, IsWanting, LacksPage, NotRepeated}
 use Rattle.rq_restart.specs.Repeating.{Belongs, Repeats}
 use Rattle.rq_restart.specs.Undoing.{IsToBeWritten}
-use Rattle.rq_record.specs.Spelling.{IsRecord, spelling}
+use Rattle.rq_record.specs.Spelling.{spelling}
 use Rattle.rq_restart.specs.Places.{places_after, places_of}
 use Rattle.rq_restart.proofs.Placing.{base_noted}
 use Rattle.rq_restart.proofs.Repeated.{first_less, marked_more, next_in, order_more, up_to}
@@ -95,57 +96,59 @@ stops_from g old met new front same counted why.DiskRead h = h ∙ ap (λ n. (n 
 stops_from g old met new front same counted (why.Damaged (damage.Record lsn)) h = (h.0, λ k. subst (IsDamagedBehind front) same (h.1 k), h.2 ∙ counted)
 stops_from g old met new front same counted _ h = absurd h
 
-module _ {L : Type 0} (g : Ghosts L) (z : Sizes) (first : Images) (old new : L) where
+-- what was read first is repeated on these images, and nothing behind it
+module _ {L : Type 0} (g : Ghosts L) (z : Sizes) (first : Images) (reader : LogRead L) (reading : IsReading g reader) (front : List Record) (mid : Images) (repeated : Repeats z front first mid) where
+  abbrev Stopped : Refusal → Type 0
+  Stopped e = IsStoppedBehind g z first e reader.first reader.device
+
   -- no more was read
-  pub stopped_here : (front : List Record) (mid : Images) (e : Refusal) (met : L) → AreSpelled front → (g.honest new → BeginsWith front (g.seen old)) → Repeats z front first mid → IsRead g old new
-      → g.seen met ≡ g.seen old → g.faults met ≡ g.faults old → StopsFor g e front met new → IsStoppedBehind g z first e old new
-  stopped_here front mid e met are begins repeated read same counted stops = record {
+  pub stopped_here : reader.records ≡ front → (met : L) → g.seen met ≡ g.seen reader.first → g.faults met ≡ g.faults reader.first → (e : Refusal) → StopsFor g e front met reader.device → Stopped e
+  stopped_here all met same counted e stops = record {
     front = front;
-    are_spelled = are;
-    begins = begins;
+    are_spelled = subst AreSpelled all reading.are_spelled;
+    begins = λ h. subst (λ (rs : List Record). BeginsWith rs (g.seen reader.first)) all (reading.begins h);
     mid = mid;
     repeated = repeated;
-    why = inl (stops_from g old met new front same counted e stops);
-    read = read;
+    why = inl (stops_from g reader.first met reader.device front same counted e stops);
+    read = reading.read;
   }
 
-  -- the record that was read was not repeated
-  pub stopped_next : (front : List Record) (r : Record) (mid : Images) (e : Refusal) → is_base r ≡ false → IsRecord r → AreSpelled front → (g.honest new → BeginsWith (r ∷ front) (g.seen old)) → (g.honest new → BeginsWith front (g.seen old)) → Repeats z front first mid → IsRead g old new → g.faults new ≡ g.faults old
-      → NotRepeated z front r mid e → IsStoppedBehind g z first e old new
-  stopped_next front r mid e plain is are begins before repeated read counted not = record {
-    front = front;
-    are_spelled = are;
-    begins = before;
-    mid = mid;
-    repeated = repeated;
-    why = by e not;
-    read = read;
-  } where
-    by : (x : Refusal) → NotRepeated z front r mid x → StopsFor g x front old new ⊎ (IsWanting g z front mid x old new ⊎ (IsBadNext g z front mid x old new ⊎ (LacksPage g z front x old new ⊎ IsNotForced g front x old new)))
-    by why.NoMemory h = inr (inl (refl, counted, inr (record { newest = r; is_record = is; begins = begins; grown = h })))
-    by (why.Damaged (damage.Record lsn)) h = inr (inr (inl (record {
+  -- one record more was, which is no Base
+  module _ (r : Record) (plain : is_base r ≡ false) (grown : reader.records ≡ r ∷ front) (counted : g.faults reader.device ≡ g.faults reader.first) where
+    told : AreAllSpelled (r ∷ standing front)
+    told = subst AreAllSpelled (standing_plain r front plain) (subst AreSpelled grown reading.are_spelled)
+
+    begins : g.honest reader.device → BeginsWith (r ∷ front) (g.seen reader.first)
+    begins h = subst (λ (rs : List Record). BeginsWith rs (g.seen reader.first)) grown (reading.begins h)
+
+    stopped_for : (e : Refusal) → (IsWanting g z front mid e reader.first reader.device ⊎ (IsBadNext g z front mid e reader.first reader.device ⊎ (LacksPage g z front e reader.first reader.device ⊎ IsNotForced g front e reader.first reader.device))) → Stopped e
+    stopped_for e why = record {
+      front = front;
+      are_spelled = told.1;
+      begins = λ h. front_begins r front (g.seen reader.first) (inl plain) (subst (λ (rs : List Record). BeginsWith rs (g.seen reader.first)) (sym (next_plain r front plain)) (begins h));
+      mid = mid;
+      repeated = repeated;
+      why = inr why;
+      read = reading.read;
+    }
+
+    -- it was not repeated
+    pub stopped_next : (e : Refusal) → NotRepeated z front r mid e → Stopped e
+    stopped_next why.NoMemory h = stopped_for why.NoMemory (inl (refl, counted, inr (record { newest = r; is_record = told.0; begins = begins; grown = h })))
+    stopped_next (why.Damaged (damage.Record lsn)) h = stopped_for (why.Damaged (damage.Record lsn)) (inr (inl (record {
       newest = r;
-      is_record = is;
+      is_record = told.0;
       plain = plain;
       begins = begins;
       told = ap (λ n. why.Damaged (damage.Record n)) h.0;
       bad = h.1;
       counted = counted;
     })))
-    by _ h = absurd h
+    stopped_next _ h = absurd h
 
-  -- or its page could not be had
-  pub stopped_without : (front : List Record) (r : Record) (page : ℕ) (mid : Images) (e : Refusal) → IsRecord r → AreSpelled front → (g.honest new → BeginsWith (r ∷ front) (g.seen old)) → (g.honest new → BeginsWith front (g.seen old)) → Repeats z front first mid → IsRead g old new → g.faults new ≡ g.faults old
-      → IsToBeWritten z r page → (e ≡ why.DiskRead) ⊎ (e ≡ why.DiskWrite) → IsStoppedBehind g z first e old new
-  stopped_without front r page mid e told are begins before repeated read counted wants is = record {
-    front = front;
-    are_spelled = are;
-    begins = before;
-    mid = mid;
-    repeated = repeated;
-    why = inr (inr (inr (inl (record { newest = r; is_record = told; begins = begins; page = page; wants = wants; is = is; counted = counted }))));
-    read = read;
-  }
+    -- or its page could not be had
+    pub stopped_without : (page : ℕ) → IsToBeWritten z r page → (e : Refusal) → (e ≡ why.DiskRead) ⊎ (e ≡ why.DiskWrite) → Stopped e
+    stopped_without page wants e is = stopped_for e (inr (inr (inl (record { newest = r; is_record = told.0; begins = begins; page = page; wants = wants; is = is; counted = counted }))))
 
 -- of a store that was left so, a record of its log belongs behind those before it, as they are read
 pub left_belongs : (z : Sizes) (log front : List Record) (r : Record) (first mid : Images) → is_base r ≡ false → oldest (length (r ∷ front)) log ≡ r ∷ front → length (r ∷ front) ≤ length log → base_lsn front ≡ base_lsn log → IsLeft z first log → Repeats z (marked front) first mid

@@ -2,7 +2,7 @@
 use Rattle.std.proofs.Common.{◌≡◌, ◌⊎◌, ⊎_elim, ℕ, ◌+◌, ◌-◌, ◌%◌, ◌^◌, ◌<◌, ◌≤◌, ◌++◌, ◌∷◌, false, List, [], drop, length, Result, Ok, Err, inl, inr, refl, sym, ◌∙◌, ap, subst, arith}
 use Rattle.std.specs.Prelude.{◌≢◌, IfErr, OnErr, OnOk}
 use Rattle.std.proofs.Math.Seq.{drop-append-add}
-use Rattle.std.proofs.lemmas.List.{append_assoc}
+use Rattle.std.proofs.lemmas.List.{append_assoc, length-append}
 use Rattle.std.proofs.lemmas.Result.{IfErr-weaker, on_ok_weaker}
 use Rattle.rq_model.specs.declared.record.Record.{Record}
 use Rattle.rq_model.specs.declared.refusal.Refusal.{Refusal}
@@ -19,7 +19,6 @@ use Rattle.rq_restart.specs.Again.{NextNotUndoneFor, NotReadFor}
 use Rattle.rq_analysis.specs.declared.open_work.NextUndo.{NextUndo}
 use Rattle.rq_analysis.specs.declared.open_work.NextUndo.TheVariants.{Void, Write}
 use Rattle.rq_log.proofs.Keeping.{read_twice}
-use Rattle.rq_page.specs.Pages.{lsn_of}
 use Rattle.rq_page.specs.Sizes.{Sizes, page_count}
 use Rattle.rq_pool.specs.Fetching.{AreAllFramed, HasFailed, HasReadFor, IsReadAsStored, ReadFails}
 use Rattle.rq_pool.specs.Fixing.{NotBroughtIn}
@@ -33,7 +32,7 @@ use Rattle.rq_restart.specs.Leaving.{LeavesRepeated, LeavesSound, WasLeftOrRepea
 use Rattle.rq_restart.specs.Repeating.{AreMarked, IsRecordRedone, Repeats, paged}
 use Rattle.rq_restart.specs.Standing.{NoneHeld}
 use Rattle.rq_restart.specs.Undoing.{FailsWith, Failures, GoesOn, HaveBeenHonest, HaveToldTruly, IsOfReads, IsRepeatedOn, MakesWay, NamesDevice, NamesNoDevice, NoneFailed, SameFailures, failures}
-use Rattle.rq_restart.proofs.Marking.{marked_twice, same_marked}
+use Rattle.rq_restart.proofs.Marking.{kept_marked, marked_longer, marked_twice, same_marked}
 use Rattle.rq_restart.proofs.Sounding.{sound_kept, sound_read, sound_same, sound_then}
 use Rattle.rq_restart.proofs.Telling.{tells_ended, tells_read, tells_then}
 use Rattle.rq_restart.proofs.Undos.{going_more, still}
@@ -177,14 +176,9 @@ framed_alike old new sizes frames all q low high =
 held_alike : {P : Type 0} (old new : Pooled P) → new.frames ≡ old.frames → NoneHeld old.frames → NoneHeld new.frames
 held_alike old new frames = subst NoneHeld (sym frames)
 
--- pages that are kept up are as they were
-kept_marked : {P : Type 0} (p : page_device.Ghosts P) (forced : ℕ) (old new : Pooled P) → IsKeptUp p forced old new → new.images ≡ old.images → AreMarked old new
-kept_marked p forced old new up images = record {
-  later = λ q. (let e = ap (λ (i : List (List ℕ)). lsn_at i q) images in omega (arith, e));
-  newer = λ q now. inl (up.changed q now).was;
-} where
-  lsn_at : List (List ℕ) → ℕ → ℕ
-  lsn_at i q = lsn_of (image_in i q)
+-- no log with records behind is shorter
+pub no_shorter : (made records now : List Record) → now ≡ made ++ records → length records ≤ length now
+no_shorter made records now is = (let e = ap length is ∙ length-append made records in omega (arith, e))
 
 module _ {P L : Type 0} (p : page_device.Ghosts P) (l : log_device.Ghosts L) where
   -- what was told of all calls truly was so of the first
@@ -198,12 +192,12 @@ module _ {P L : Type 0} (p : page_device.Ghosts P) (l : log_device.Ghosts L) whe
 module _ {P L : Type 0} (p : page_device.Ghosts P) (l : log_device.Ghosts L)
     (only_now : (d : L) (c : List ℕ) → l.left_since d (l.moment d) c → l.may_leave d c) where
   -- records came behind the log and were repeated on the pages, or were not, and no device was called
-  pub goes_in_memory : {X : Type 0} (old new : Pooled P) (log now : L) (records behind now_records : List Record) (r : Result X Refusal) → IfErr r NamesNoDevice → new.sizes ≡ old.sizes → new.device ≡ old.device → new.frames ≡ old.frames → now ≡ log → AreMarked old new → now_records ≡ behind ++ records → GoesOn p l old log records r new now now_records
+  pub goes_in_memory : {X : Type 0} (old new : Pooled P) (log now : L) (records behind now_records : List Record) (r : Result X Refusal) → IfErr r NamesNoDevice → new.sizes ≡ old.sizes → new.device ≡ old.device → new.frames ≡ old.frames → now ≡ log → AreMarked (length now_records) old new → now_records ≡ behind ++ records → GoesOn p l old log records r new now now_records
   goes_in_memory old new log now records behind now_records r none sizes device frames same marked more = record {
     sizes = sizes;
     count = ap length frames;
     held = held_alike old new frames;
-    marked = λ told. marked;
+    marked = marked;
     pages_honest = subst p.honest device;
     log_honest = subst l.honest same;
     counted = on_ok r (ap p.faults device, ap l.faults same);
@@ -221,7 +215,7 @@ module _ {P L : Type 0} (p : page_device.Ghosts P) (l : log_device.Ghosts L)
 
   -- nothing happened
   pub goes_nowhere : {X : Type 0} (pages : Pooled P) (log : L) (records : List Record) (r : Result X Refusal) → IfErr r NamesNoDevice → GoesOn p l pages log records r pages log records
-  goes_nowhere pages log records r none = goes_in_memory pages pages log log records [] records r none refl refl refl refl (same_marked pages pages refl) refl
+  goes_nowhere pages log records r none = goes_in_memory pages pages log log records [] records r none refl refl refl refl (same_marked (length records) pages pages refl) refl
 
   -- pages were read
   pub goes_reading : {X : Type 0} (old new : Pooled P) (log : L) (records : List Record) (r : Result X Refusal) → HasReadFor p old r new → IfErr r IsOfReads → GoesOn p l old log records r new log records
@@ -229,7 +223,7 @@ module _ {P L : Type 0} (p : page_device.Ghosts P) (l : log_device.Ghosts L)
     sizes = (only.read.kept 0).sizes;
     count = ap length only.read.frames;
     held = held_alike old new only.read.frames;
-    marked = λ told. as_they_were told;
+    marked = kept_marked p 0 (length records) old new (only.read.kept 0);
     pages_honest = only.read.device.honest;
     log_honest = λ h. h;
     counted = on_ok_weaker r (λ same. (same, refl)) only.counted;
@@ -244,9 +238,6 @@ module _ {P L : Type 0} (p : page_device.Ghosts P) (l : log_device.Ghosts L)
     written = sound_read p old.sizes old.device new.device only.read.device;
     leaves = λ h first repeated. leaves_read p old.sizes first records old.device new.device only.read.device;
   } where
-    as_they_were : IsReadAsStored p old new → AreMarked old new
-    as_they_were = ⊎_elim (λ all. same_marked old new (only.read.stood all)) (λ h. kept_marked p 0 old new (only.read.kept 0) ((only.read.kept 0).images h))
-
     fails_so : (e : Refusal) → IsOfReads e → ReadFails p e old new → FailsWith p old.device new.device e (failures l.faults log log)
     fails_so why.NoMemory names f = (f, refl)
     fails_so why.DiskRead names f = inl (f.0.page, f.1, refl)
@@ -263,7 +254,7 @@ module _ {P L : Type 0} (p : page_device.Ghosts P) (l : log_device.Ghosts L)
     sizes = refl;
     count = refl;
     held = λ none. none;
-    marked = λ told. same_marked pages pages refl;
+    marked = same_marked (length now_records) pages pages refl;
     pages_honest = λ h. h;
     log_honest = read.honest;
     counted = on_ok_weaker r (λ same. (refl, same)) counted;
@@ -277,15 +268,12 @@ module _ {P L : Type 0} (p : page_device.Ghosts P) (l : log_device.Ghosts L)
 
   -- pages are kept up, and no log was called
   module _ {X : Type 0} (old new : Pooled P) (log : L) (records : List Record) (r : Result X Refusal) (pool : IsPool old.sizes old.images) (marks : length old.changed ≡ page_count old.sizes) (up : IsKeptUp p (2 ^ 64 - 1) old new) (stood : AreAllFramed old → new ≡ old) where
-    as_they_are : IsReadAsStored p old new → AreMarked old new
-    as_they_are = ⊎_elim (λ all. same_marked old new (stood all)) (λ h. kept_marked p (2 ^ 64 - 1) old new up (up.images h))
-
     pub goes_kept : length new.frames ≡ length old.frames → NoneHeld new.frames → OnOk r (p.faults new.device ≡ p.faults old.device) → IfErr r (λ e. FailsWith p old.device new.device e (failures l.faults log log)) → GoesOn p l old log records r new log records
     goes_kept count held counted fails = record {
       sizes = up.sizes;
       count = count;
       held = λ none. held;
-      marked = as_they_are;
+      marked = kept_marked p (2 ^ 64 - 1) (length records) old new up;
       pages_honest = up.honest;
       log_honest = λ h. h;
       counted = on_ok_weaker r (λ same. (same, refl)) counted;
@@ -311,7 +299,7 @@ module _ {P L : Type 0} (p : page_device.Ghosts P) (l : log_device.Ghosts L)
     sizes = way.kept.sizes;
     count = way.count;
     held = λ none. way.held;
-    marked = λ told. as_they_were told;
+    marked = kept_marked p (2 ^ 64 - 1) (length now.records) old new way.kept;
     pages_honest = way.kept.honest;
     log_honest = way.honest;
     counted = way.counted;
@@ -325,9 +313,7 @@ module _ {P L : Type 0} (p : page_device.Ghosts P) (l : log_device.Ghosts L)
     behind = ([], way.records);
     written = sound_kept p old.sizes (2 ^ 64 - 1) old new way.pool way.marks way.kept;
     leaves = λ h first repeated. subst (λ (rs : List Record). LeavesRepeated p old.sizes first rs old.device new.device) (sym way.records) (leaves_kept p old.sizes first log.records (2 ^ 64 - 1) old new way.pool repeated way.kept);
-  } where
-    as_they_were : IsReadAsStored p old new → AreMarked old new
-    as_they_were = ⊎_elim (λ all. same_marked old new (way.stood all).0) (λ h. kept_marked p (2 ^ 64 - 1) old new way.kept (way.kept.images h))
+  }
 
 -- a refusal is handed on
 pub goes_refused : {P L X Y : Type 0} {p : page_device.Ghosts P} {l : log_device.Ghosts L} {old new : Pooled P} {log now : L} {records now_records : List Record} (r : Result X Refusal) (s : Result Y Refusal) (e : Refusal) → r ≡ Err e → s ≡ Err e → GoesOn p l old log records r new now now_records → GoesOn p l old log records s new now now_records
@@ -354,7 +340,7 @@ goes_longer p l old new log now records now_records more all r longer goes = rec
   sizes = goes.sizes;
   count = goes.count;
   held = goes.held;
-  marked = goes.marked;
+  marked = marked_longer (length now_records) (length all) old new (no_shorter more now_records all longer) goes.marked;
   pages_honest = goes.pages_honest;
   log_honest = goes.log_honest;
   counted = goes.counted;
@@ -396,7 +382,7 @@ module _ {P L X Y : Type 0} (p : page_device.Ghosts P) (l : log_device.Ghosts L)
     sizes = two.sizes ∙ one.sizes;
     count = two.count ∙ one.count;
     held = λ free. two.held (one.held free);
-    marked = λ told. marked_twice a b c (one.marked (before told)) (two.marked (after told));
+    marked = marked_twice (length records) (length now_records) a b c (no_shorter two.behind.0 records now_records two.behind.1) one.marked two.marked;
     pages_honest = λ h. one.pages_honest (two.pages_honest h);
     log_honest = λ h. one.log_honest (two.log_honest h);
     counted = on_ok_weaker s (λ same. (same.0 ∙ none.0, same.1 ∙ none.1)) two.counted;
@@ -413,12 +399,7 @@ module _ {P L X Y : Type 0} (p : page_device.Ghosts P) (l : log_device.Ghosts L)
         let then : HaveBeenHonest p l b.device y = (two.pages_honest h.0, two.log_honest h.1) in
         let there : Repeats b.sizes records first (paged b) = subst (λ (k : Sizes). Repeats k records first (paged b)) (sym one.sizes) (repeated (inr then.0, then.1) first start) in
         leaves_then p a.sizes first records now_records two.behind.0 a.device b.device c.device two.behind.1 (one.leaves then first start) (subst (λ (k : Sizes). LeavesRepeated p k first now_records b.device c.device) one.sizes (two.leaves h first there));
-  } where
-    before : IsReadAsStored p a c → IsReadAsStored p a b
-    before = ⊎_elim (λ all. inl all) (λ h. inr (two.pages_honest h))
-
-    after : IsReadAsStored p a c → IsReadAsStored p b c
-    after = ⊎_elim (λ all. inl (one.stood all).framed) (λ h. inr h)
+  }
 
 -- a log is gone on with, and its pages
 module _ {P L : Type 0} (p : page_device.Ghosts P) (l : log_device.Ghosts L) where

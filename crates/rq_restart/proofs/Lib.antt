@@ -34,3 +34,5 @@ pub mod Numbers
 pub mod Pasts
 pub mod Placing
 pub mod ReadAgain
+pub mod HandedOn
+pub mod RoundsBehind

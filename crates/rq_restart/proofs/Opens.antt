@@ -219,7 +219,7 @@ module _ {P L : Type 0} (p : page_device.Ghosts P) (l : log_device.Ghosts L) (pa
 
     -- none counted as changed as it was read
     newer : p.honest now.device → (q : ℕ) → q < page_count now.sizes → is_changed now.changed q ≡ true → lsn_of (p.seen pages q) < lsn_of (image_in now.images q)
-    newer h q high e = elim ((o.continues.marked (inr h)).newer q e) [
+    newer h q high e = elim (o.continues.marked.newer q e) [
       | inl was ↦ absurd (let bad : true ≡ false = sym was ∙ ap (λ (c : List Bool). is_changed c q) unchanged ∙ none_marked (page_count loaded.sizes) q in cc bad)
       | inr since ↦
           let as_read : image_in loaded.images q ≡ p.seen pages q = seen (o.continues.pages_honest h) q (subst (λ (z : Sizes). q < page_count z) o.continues.sizes high) in
@@ -237,6 +237,7 @@ module _ {P L : Type 0} (p : page_device.Ghosts P) (l : log_device.Ghosts L) (pa
           sizes = λ h. subst (λ z. IsSuperblock z (p.seen pages 0)) (sym o.continues.sizes) (told_on loaded.sizes (p.seen pages) loaded.images pages_sound (seen (o.continues.pages_honest h)));
           checked = λ told. checked (told_truly told);
           marked = newer;
+          within = o.within;
           told = λ h. (o.read.records, record { honest = h; are_spelled = o.was_read.are_spelled; reads = o.was_read.reads (o.honest h) });
           over = all;
           recovers = λ older r on. recovers engine report o.pool (checked (inr on.honest, r.honest)) older r (all older r) on o.restarted.forced (leaves (on.honest, r.honest));

@@ -1,6 +1,7 @@
 -- What mends a log: operations without an end are undone by pages, and then lost transactions by their inverses.
-use Rattle.std.proofs.Common.{◌≡◌, ◌≢◌, ◌⊎◌, ◌++◌, ℕ, Result, Ok, List, [], ◌∷◌, length, map, Some, None, inl, inr, refl, sym, ◌∙◌, ap, subst, arith}
-use Rattle.rq_disk.specs.Device.{Images}
+use Rattle.std.proofs.Common.{◌≡◌, ◌≢◌, ◌⊎◌, ◌++◌, ⊎_elim, ℕ, ◌≤◌, Result, Ok, List, [], ◌∷◌, length, map, Some, None, inl, inr, refl, sym, ◌∙◌, ap, subst, arith}
+use Rattle.rq_disk.specs.Device.{Images, Leaves}
+use Rattle.std.specs.Prelude.{IfErr}
 use Rattle.rq_model.specs.declared.record.Record.{Record}
 use Rattle.rq_model.specs.declared.refusal.Refusal.{Refusal}
 use Rattle.rq_model.specs.declared.refusal.Refusal.TheVariants as why
@@ -9,7 +10,7 @@ use Rattle.rq_model.specs.declared.txn.Txn.{Txn}
 use Rattle.rq_model.specs.Incarnations.{incarnation_of}
 use Rattle.rq_model.specs.Unended.{lost}
 use Rattle.rq_page.specs.Sizes.{Sizes}
-use Rattle.rq_pool.specs.Fetching.{HasReadFor, IsReadAsStored, IsUnread}
+use Rattle.rq_pool.specs.Fetching.{HasReadFor, IsReadAsStored, IsUnread, MayHaveRead}
 use Rattle.rq_pool.specs.Pooled.{IsPool, Pooled}
 use Rattle.rq_pool.proofs.Fetched.{stored_images}
 use Rattle.rq_disk.specs.declared.device.LogDevice as log_device
@@ -49,12 +50,13 @@ use Rattle.rq_restart.specs.Checked.{IsEnded}
 use Rattle.rq_restart.specs.RolledBack.{IsRolledBackSince, RollbackStops}
 use Rattle.rq_restart.specs.Repeating.{ArePagesCounted, Repeats, paged}
 use Rattle.rq_restart.specs.Standing.{Found, Stands, StandsOver, before}
-use Rattle.rq_restart.specs.Undoing.{AreAsFound, GoesOn, HaveToldTruly, IsOfReads, IsRepeatedOn, NoneFailed, UndoStops}
+use Rattle.rq_restart.specs.Undoing.{AreAsFound, GoesOn, HaveBeenHonest, HaveToldTruly, IsOfReads, IsRepeatedOn, UndoStops}
 use Rattle.rq_restart.proofs.GoingOn.{goes_reading, goes_then, told_behind, told_first}
 use Rattle.rq_restart.proofs.Aborts.{aborting_none, aborting_weaker, bad_weaker, planned_weaker, active_lost}
 use Rattle.rq_restart.proofs.Lefts.{left_undoing}
 use Rattle.rq_restart.proofs.Pasts.{undoing_added, undoing_on, undone_on, work_on}
 use Rattle.rq_restart.proofs.Repeated.{AreUpTo, all_up_to}
+use Rattle.rq_restart.proofs.Standing.{pages_stand}
 use Rattle.rq_restart.proofs.Showing.{between_holds}
 
 -- undoing by pages leaves the transactions that have no end
@@ -239,7 +241,7 @@ unread_reads g (why.Damaged (damage.Page n)) old new not = tt
 unread_reads g _ old new not = absurd not
 
 -- all have ended, or some have not
-pub ended_or_not : (log : List Record) → IsEnded log ⊎ (IsEnded log → ⊥)
+ended_or_not : (log : List Record) → IsEnded log ⊎ (IsEnded log → ⊥)
 ended_or_not log = by (open_work_of log).active where
   by : (ts : List Txn) → (ts ≡ []) ⊎ (ts ≡ [] → ⊥)
   by [] = inl refl
@@ -254,7 +256,7 @@ module _ {P L : Type 0} (p : page_device.Ghosts P) (l : log_device.Ghosts L) (f 
   was_left : IsLeft f.sizes f.images (rebased (before p l f) log)
   was_left = subst (IsLeft f.sizes f.images) (sym found) so.left
 
-  pub stands_over : StandsOver p l f (IsShown now.records mid) mid now
+  stands_over : StandsOver p l f (IsShown now.records mid) mid now
   stands_over = record {
     stands = so;
     base = base f.sizes log now.records mid u in_pool f.images (before p l f) past was_left so.repeated;
@@ -265,17 +267,39 @@ module _ {P L : Type 0} (p : page_device.Ghosts P) (l : log_device.Ghosts L) (f 
   }
 
 -- operations were undone, and then pages were read
-module _ {P L X : Type 0} (p : page_device.Ghosts P) (l : log_device.Ghosts L) (only_now : (d : L) (c : List ℕ) → l.left_since d (l.moment d) c → l.may_leave d c) (old one two : Pooled P) (log mid : Logged L) (r : Result X Refusal)
-    (goes : GoesOn p l old log.device log.records r one mid.device mid.records) (none : NoneFailed p l old.device log.device one.device mid.device) (repeated : HaveToldTruly p l old one mid.device → IsRepeatedOn old.sizes log.records (paged old) mid.records (paged one)) (read : HasReadFor {X = Unit {0}} p one (Ok tt) two) where
+pub record IsUndoneRead {P L : Type 0} (p : page_device.Ghosts P) (l : log_device.Ghosts L) (old one two : Pooled P) (log mid : Logged L) : Type 0 where
+  pub goes : GoesOn {P = P} {L = L} {X = Unit {0}} p l old log.device log.records (Ok tt) one mid.device mid.records
+  pub repeated : HaveToldTruly p l old one mid.device → IsRepeatedOn old.sizes log.records (paged old) mid.records (paged one)
+  pub undone : l.honest mid.device → IsUndone log.records mid.records
+  pub pool : IsPool one.sizes one.images
+  pub way : HaveBeenHonest p l one.device mid.device → (f : Found P L) → Stands p l f old log → AreAsFound p l f log.records → Stands p l f one mid
+  pub read : HasReadFor {P = P} {X = Unit {0}} p one (Ok tt) two
+
+-- and then transactions were, in whole rounds
+pub record IsAbortedBehind {P L : Type 0} (p : page_device.Ghosts P) (l : log_device.Ghosts L) (two three : Pooled P) (mid now : Logged L) : Type 0 where
+  pub goes : GoesOn {P = P} {L = L} {X = Unit {0}} p l two mid.device mid.records (Ok tt) three now.device now.records
+  pub gone_on : HaveToldTruly p l two three now.device → HasAborted two.sizes mid.records two now.records three
+  pub ended : IsEnded now.records
+  pub none : IsEnded mid.records → (now ≡ mid) × (three ≡ two)
+  pub way : HaveBeenHonest p l three.device now.device → (f : Found P L) → StandsOver p l f (IsShown mid.records two) two mid → StandsOver p l f (IsShown now.records three) three now
+
+module _ {P L : Type 0} {p : page_device.Ghosts P} {l : log_device.Ghosts L} (only_now : (d : L) (c : List ℕ) → l.left_since d (l.moment d) c → l.may_leave d c) {old one two : Pooled P} {log mid : Logged L} (k : IsUndoneRead p l old one two log mid) where
   pub went : GoesOn {X = Unit {0}} p l old log.device log.records (Ok tt) two mid.device mid.records
-  went = goes_then p l old one two log.device mid.device mid.device log.records mid.records mid.records r (Ok tt) goes none (λ told. (repeated told).repeated) (goes_reading p l only_now one two mid.device mid.records (Ok tt) read tt)
+  went = goes_then p l old one two log.device mid.device mid.device log.records mid.records mid.records (Ok tt) (Ok tt) k.goes k.goes.counted (λ told. (k.repeated told).repeated) (goes_reading p l only_now one two mid.device mid.records (Ok tt) k.read tt)
+
+  read_truly : HaveToldTruly p l old two mid.device → IsReadAsStored p one two
+  read_truly told = (told_behind p l old one two log.device mid.device mid.device log.records mid.records (Ok tt) k.goes told).0
 
   pub repeated_then : HaveToldTruly p l old two mid.device → IsRepeatedOn old.sizes log.records (paged old) mid.records (paged two)
-  repeated_then told =
-      let images = stored_images p one two read.read (told_behind p l old one two log.device mid.device mid.device log.records mid.records r goes told).0 in
-      subst (λ (i : List (List ℕ)). IsRepeatedOn old.sizes log.records (paged old) mid.records (image_in i)) (sym images) (repeated (told_first p l old one two mid.device mid.device read.read.device.honest (λ h. h) told))
+  repeated_then told = subst (λ (i : List (List ℕ)). IsRepeatedOn old.sizes log.records (paged old) mid.records (image_in i)) (sym (stored_images p one two k.read.read (read_truly told))) (k.repeated (told_first p l old one two mid.device mid.device k.read.read.device.honest (λ h. h) told))
 
-  -- and then transactions were
+  pool_read : IsReadAsStored p one two → IsPool two.sizes two.images
+  pool_read stored = subst (λ y. IsPool y two.images) (sym (k.read.read.kept 0).sizes) (subst (λ (i : List (List ℕ)). IsPool one.sizes i) (sym (stored_images p one two k.read.read stored)) k.pool)
+
+  pub pool_then : HaveToldTruly p l old two mid.device → IsPool two.sizes two.images
+  pool_then told = pool_read (read_truly told)
+
+  -- and then transactions were, or were not
   module _ {Y : Type 0} (three : Pooled P) (now : Logged L) (s : Result Y Refusal) (abort : GoesOn p l two mid.device mid.records s three now.device now.records) where
     pub told_two : HaveToldTruly p l old three now.device → HaveToldTruly p l old two mid.device
     told_two = told_first p l old two three mid.device now.device abort.pages_honest abort.log_honest
@@ -286,11 +310,50 @@ module _ {P L X : Type 0} (p : page_device.Ghosts P) (l : log_device.Ghosts L) (
     pub all_went : GoesOn p l old log.device log.records s three now.device now.records
     all_went = goes_then p l old two three log.device mid.device now.device log.records mid.records now.records (Ok tt) s went went.counted (λ told. (repeated_then told).repeated) abort
 
-    -- in whole rounds
-    pub rolled_back : IsUndone log.records mid.records → IsPool two.sizes two.images → (HaveToldTruly p l two three now.device → HasAborted two.sizes mid.records two now.records three) → IsEnded now.records → (IsEnded mid.records → now.records ≡ mid.records) → HaveToldTruly p l old three now.device → IsRolledBackSince old.sizes log.records now.records (paged old) (paged three)
-    rolled_back u pool aborted ended same told = rolled_back_since old.sizes log.records mid.records now.records old two three went.sizes u pool (repeated_then (told_two told)).repeated (aborted (told_three told)) ended same
+  module _ {three : Pooled P} {now : Logged L} (a : IsAbortedBehind p l two three mid now) where
+    pub rounds_went : GoesOn {X = Unit {0}} p l old log.device log.records (Ok tt) three now.device now.records
+    rounds_went = all_went three now (Ok tt) a.goes
 
-    pub rolled_back_counted : (HaveToldTruly p l two three now.device → HasAborted two.sizes mid.records two now.records three) → HaveToldTruly p l old three now.device → ArePagesCounted old.sizes (length log.records) (paged old) → ArePagesCounted old.sizes (length now.records) (paged three)
-    rolled_back_counted aborted told counted =
+    pub rolled_back : HaveToldTruly p l old three now.device → IsRolledBackSince old.sizes log.records now.records (paged old) (paged three)
+    rolled_back told =
+        let before = told_two three now (Ok tt) a.goes told in
+        rolled_back_since old.sizes log.records mid.records now.records old two three went.sizes (k.undone before.1) (pool_then before) (repeated_then before).repeated (a.gone_on (told_three three now (Ok tt) a.goes told)) a.ended (λ x. ap (λ (y : Logged _). y.records) (a.none x).0)
+
+    pub rolled_back_counted : HaveToldTruly p l old three now.device → ArePagesCounted old.sizes (length log.records) (paged old) → ArePagesCounted old.sizes (length now.records) (paged three)
+    rolled_back_counted told counted =
         subst (λ (z : Sizes). ArePagesCounted z (length now.records) (paged three)) went.sizes
-        ((aborted (told_three told)).counted (subst (λ (z : Sizes). ArePagesCounted z (length mid.records) (paged two)) (sym went.sizes) ((repeated_then (told_two told)).counted counted)))
+        ((a.gone_on (told_three three now (Ok tt) a.goes told)).counted (subst (λ (z : Sizes). ArePagesCounted z (length mid.records) (paged two)) (sym went.sizes) ((repeated_then (told_two three now (Ok tt) a.goes told)).counted counted)))
+
+    -- and pages are read once more
+    module _ (four : Pooled P) (read : MayHaveRead p three four) where
+      pub told_rounds : HaveToldTruly p l old four now.device → HaveToldTruly p l old three now.device
+      told_rounds = told_first p l old three four now.device now.device read.device.honest (λ h. h)
+
+      pub links_truly : HaveToldTruly p l old four now.device → IsReadAsStored p three four
+      links_truly told = (told_behind p l old three four log.device now.device now.device log.records now.records (Ok tt) rounds_went told).0
+
+      pub links_images : HaveToldTruly p l old four now.device → four.images ≡ three.images
+      links_images told = stored_images p three four read (links_truly told)
+
+      pub links_went : {X : Type 0} (r : Result X Refusal) → HasReadFor p three r four → IfErr r IsOfReads → GoesOn p l old log.device log.records r four now.device now.records
+      links_went r only names = goes_then p l old three four log.device now.device now.device log.records now.records now.records (Ok tt) r rounds_went rounds_went.counted (λ told. (rolled_back told).repeated) (goes_reading p l only_now three four now.device now.records r only names)
+
+  -- a store stands all the while
+  module _ (pages_now : (d : P) (c : Images) → p.left_since d (p.moment d) c → Leaves (p.may_be d) c) (pages_count : (d : P) (t : ℕ) (c : Images) → t ≤ p.moment d → Leaves (p.may_be d) c → p.left_since d t c) (log_count : (d : L) (t : ℕ) (c : List ℕ) → t ≤ l.moment d → l.may_leave d c → l.left_since d t c)
+      (f : Found P L) (so : Stands p l f old log) (found : AreAsFound p l f log.records) where
+    stands_two : HaveBeenHonest p l two.device mid.device → Stands p l f two mid
+    stands_two h = pages_stand p l pages_now pages_count log_count f one mid (k.way (k.read.read.device.honest h.0, h.1) f so found) two (k.read.read.kept 0).sizes ((k.read.read.kept 0).images h.0) k.read.read.device
+
+    pub over_two : HaveBeenHonest p l two.device mid.device → (IsEnded mid.records → ⊥) → StandsOver p l f (IsShown mid.records two) two mid
+    over_two h some = stands_over p l f log.records two mid found so.past (k.undone h.1) (pool_read (inr h.0)) (stands_two h) some
+
+    module _ {three : Pooled P} {now : Logged L} (a : IsAbortedBehind p l two three mid now) (four : Pooled P) (read : MayHaveRead p three four) where
+      stands_three : HaveBeenHonest p l three.device now.device → Stands p l f three now
+      stands_three h =
+          let before : HaveBeenHonest p l two.device mid.device = (a.goes.pages_honest h.0, a.goes.log_honest h.1) in
+          ⊎_elim
+          (λ ended. subst (λ (y : Logged _). Stands p l f three y) (sym (a.none ended).0) (subst (λ (x : Pooled _). Stands p l f x mid) (sym (a.none ended).1) (stands_two before)))
+          (λ some. (a.way h f (over_two before some)).stands) (ended_or_not mid.records)
+
+      pub stands_four : HaveBeenHonest p l four.device now.device → Stands p l f four now
+      stands_four h = pages_stand p l pages_now pages_count log_count f three now (stands_three (read.device.honest h.0, h.1)) four (read.kept 0).sizes ((read.kept 0).images h.0) read.device

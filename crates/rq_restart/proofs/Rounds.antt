@@ -305,23 +305,31 @@ module _ {P : Type 0} (z : Sizes) (log : List Record) (old : Pooled P) (d : Pend
   )
 
 -- what is due first is planned to be taken back, over pages that are as they were
-module _ {P : Type 0} (z : Sizes) (log : List Record) (old mid : Pooled P) (f : Analysis) (are : IsAnalysisOf f log) (d : PendingUndo) (ds : List PendingUndo) (first : f.dues ≡ d ∷ ds) (none : least_free f.dues f.open_work.active ≡ None)
-    (ws : List SlotWrite) (n : ℕ) (back : IsTakingBack z (slots_in z old.images) (deed_by d.level d.deed) ws) (number : n ≡ number_of d.txn f.numbers + 1) (images : mid.images ≡ old.images) where
+pub record IsPlannedFirst {P : Type 0} (z : Sizes) (log : List Record) (old mid : Pooled P) (f : Analysis) (d : PendingUndo) (ws : List SlotWrite) (n : ℕ) : Type 0 where
+  pub found : IsAnalysisOf f log
+  pub older : List PendingUndo
+  pub first : f.dues ≡ d ∷ older
+  pub none : least_free f.dues f.open_work.active ≡ None
+  pub back : IsTakingBack z (slots_in z old.images) (deed_by d.level d.deed) ws
+  pub number : n ≡ number_of d.txn f.numbers + 1
+  pub images : mid.images ≡ old.images
+
+module _ {P : Type 0} {z : Sizes} {log : List Record} {old mid : Pooled P} {f : Analysis} {d : PendingUndo} {ws : List SlotWrite} {n : ℕ} (k : IsPlannedFirst z log old mid f d ws n) where
   abbrev begun : List Record → State → Type 0
   begun = IsShownWithin log mid d n ws 0
 
   pub begun_shown : OfStore z (IsShown log old) begun
-  begun_shown x base k same b = within_alike z log old d n ws 0 log mid refl images x base k same (begin_shown z log old f are d ds first none ws n back number x base k same b)
+  begun_shown x base sound same b = within_alike z log old d n ws 0 log mid refl k.images x base sound same (begin_shown z log old f k.found d k.older k.first k.none ws n k.back k.number x base sound same b)
 
   planned : IsPlannedOn z (RepeatedSince z log (paged old) log) d ws
-  planned = planned_here z log (paged old) d ws back
+  planned = planned_here z log (paged old) d ws k.back
 
   next : IsTakenNext log d n
-  next = taken_next z log old f are d ds first none n number
+  next = taken_next z log old f k.found d k.older k.first k.none n k.number
 
   -- a write of it was not made
   pub making_stops : (e : Refusal) → AbortStops z (IsMaking d.txn n ws log) log mid begun e → AbortStops z (IsAbortingFrom z log old) log old (IsShown log old) e
-  making_stops e s = stops_before z (IsMaking d.txn n ws log) (IsAbortingFrom z log old) log old mid (IsShown log old) begun e (λ l. making_aborts z (RepeatedSince z log (paged old)) log l d n ws next planned) images begun_shown s
+  making_stops e s = stops_before z (IsMaking d.txn n ws log) (IsAbortingFrom z log old) log old mid (IsShown log old) begun e (λ l. making_aborts z (RepeatedSince z log (paged old)) log l d n ws next planned) k.images begun_shown s
 
   -- all were
   module _ (now : List Record) (new : Pooled P) (made : HasGoneOn z (with_writes d.txn n (take (length ws) ws) log ≡ now) log now mid new begun (all_made z now new d n ws)) where
@@ -332,14 +340,14 @@ module _ {P : Type 0} (z : Sizes) (log : List Record) (old mid : Pooled P) (f : 
     taken = closing_aborts z (RepeatedSince z log (paged old)) log now d n ws next planned (aborts.all_made d.txn n ws log now made.aborting)
 
     pub made_gone : HasGoneOn z (with_writes d.txn n (take (length ws) ws) log ≡ now) log now old new (IsShown log old) (all_made z now new d n ws)
-    made_gone = gone_join z (Unit {0}) log log old mid (IsShown log old) begun (alike_gone z log log old mid (IsShown log old) begun refl images begun_shown) (with_writes d.txn n (take (length ws) ws) log ≡ now) (with_writes d.txn n (take (length ws) ws) log ≡ now) now new (all_made z now new d n ws) (λ u x. x) made
+    made_gone = gone_join z (Unit {0}) log log old mid (IsShown log old) begun (alike_gone z log log old mid (IsShown log old) begun refl k.images begun_shown) (with_writes d.txn n (take (length ws) ws) log ≡ now) (with_writes d.txn n (take (length ws) ws) log ≡ now) now new (all_made z now new d n ws) (λ u x. x) made
 
     -- its end was not
     pub closing_stops : (e : Refusal) → StepStops (length now) (Belongs z now end (paged new)) e → AbortStops z (IsAbortingFrom z log old) log old (IsShown log old) e
     closing_stops e step =
         let here : AbortStops z (IsAbortingFrom z log old) now new (all_made z now new d n ws) e =
         one_stops z (IsAbortingFrom z log old) now end new (all_made z now new d n ws) (making_aborts z (RepeatedSince z log (paged old)) log now d n ws next planned (record { made = length ws; are = made.aborting })) (BetweenRounds taken) e step (within_way z now new d n ws (length ws)) (close_belongs z now new d n ws) in
-        stops_join z (with_writes d.txn n (take (length ws) ws) log ≡ now) log now old new (IsShown log old) (all_made z now new d n ws) made_gone (IsAbortingFrom z log old) (IsAbortingFrom z log old) (λ m l k. k) e here
+        stops_join z (with_writes d.txn n (take (length ws) ws) log ≡ now) log now old new (IsShown log old) (all_made z now new d n ws) made_gone (IsAbortingFrom z log old) (IsAbortingFrom z log old) (λ m l h. h) e here
 
     -- it was
     pub closed_gone : (last : Pooled P) → last ≡ new → IsRecordRedone z now end (paged new) (paged last) → HasGoneOn z (AbortsFrom z log old (end ∷ now)) now (end ∷ now) new last (all_made z now new d n ws) (IsShown (end ∷ now) last)

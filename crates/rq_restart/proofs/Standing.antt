@@ -12,7 +12,7 @@ use Rattle.rq_disk.specs.declared.device.PageDevice as page_device
 use Rattle.rq_log.specs.Crash.{LeavesOnly}
 use Rattle.rq_log.specs.Logged.{Logged, WasLeftOrGoesOn}
 use Rattle.rq_log.specs.Reading.{BeginsWith, IsRead, LogRead}
-use Rattle.rq_log.specs.Spelled.{AreAllSpelled, AreSpelled, spelled, spelled_all}
+use Rattle.rq_log.specs.Spelled.{AreAllSpelled, AreSpelled, EndsWith, spelled, spelled_all}
 use Rattle.rq_page.specs.Sizes.{Sizes, page_count}
 use Rattle.rq_pool.specs.Fetching.{AreAllFramed}
 use Rattle.rq_pool.specs.KeptUp.{IsKeptUp}
@@ -191,3 +191,14 @@ module _ {P L : Type 0} (p : page_device.Ghosts P) (l : log_device.Ghosts L)
         (λ all. subst (λ (x : Pooled P). IsOnWay p l f.pages f.log f.sizes f.read f.read x.device now) (sym (stood all)) read_on)
         (λ durable. (let fit = are_fit marks told begins in
         written_out p l pages_now pages_count log_count f.pages f.log f.sizes f.read f.read now durable (2 ^ 64 - 1) pages new read_on (subst (λ (z : Sizes). IsPool z pages.images) so.sizes pool) fit.fits fit.based up))
+
+-- what was read is repeated on pages that are on their way too
+pub stands_read : {P L : Type 0} (p : page_device.Ghosts P) (l : log_device.Ghosts L) (f : Found P L) (pages new : Pooled P) (reader now : LogRead L) → StandsRead p l f pages reader → new.sizes ≡ pages.sizes → now.first ≡ reader.first → IsOnWay p l f.pages f.log f.sizes f.read f.read new.device now.device → Repeats f.sizes now.records f.images (paged new)
+    → StandsRead p l f new now
+stands_read {L = L} p l f pages new reader now so sizes first on repeated = record {
+  sizes = sizes ∙ so.sizes;
+  left = so.left;
+  on = on;
+  reads = subst (λ (d : L). EndsWith f.read (l.seen d)) (sym first) so.reads;
+  repeated = repeated;
+}

@@ -26,7 +26,7 @@ use Rattle.rq_engine.specs.Earlier.{on, over, rebased}
 use Rattle.rq_engine.specs.Opened.{OpenStore, pooled}
 use Rattle.rq_restart.specs.declared.restart.Report.{Report}
 use Rattle.rq_restart.specs.Leaving.{LeavesSound}
-use Rattle.rq_restart.specs.Repeating.{paged}
+use Rattle.rq_restart.specs.Repeating.{HaveLsnsWithin, paged}
 use Rattle.rq_restart.specs.Restarting.{BeginsFrom, IsLeftOn, IsOpenedOver, IsReadAs, IsRefusedFor, LeavesPages, Reports, Stops, TellTruly, WasChecked}
 use Rattle.rq_restart.specs.Telling.{WasLeftOrTells}
 use Rattle.rq_restart.specs.Underway.{IsLeftOrGoesOn, OfStores}
@@ -80,7 +80,8 @@ module _ {P L : Type 0} (p : page_device.Ghosts P) (l : log_device.Ghosts L) (pa
     -- a page that counts as changed is newer than it was read
     pub marked : p.honest s.pages → (q : ℕ) → q < page_count s.state.sizes → is_changed s.changed q ≡ true
         → lsn_of (p.seen pages q) < lsn_of (image_at s.state.images q)
-    -- whatever the devices are, pages of that store alone were written
+    -- whatever the devices are, no page's LSN is beyond the log as it is then, and pages of that store alone were written
+    pub within : HaveLsnsWithin s.state.sizes (length s.state.records) (paged (pooled s))
     pub written : LeavesSound p s.state.sizes pages s.pages
     -- what a crash leaves of the pages, of honest devices
     pub pages_left : HaveBeenHonest p l s.pages s.log → LeavesPages p l pages log s.pages s.state.sizes s.state.records

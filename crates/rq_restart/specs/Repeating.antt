@@ -16,11 +16,17 @@ use Rattle.rq_store.specs.Fitting.{told_by, image_in}
 abbrev pub paged : {P : Type 0} → Pooled P → Images
 paged pages = image_in pages.images
 
--- No page is older than it was, and one that counts as changed and did not is newer.
-pub record AreMarked {P : Type 0} (old new : Pooled P) : Type 0 where
+-- No page is older than it was. One with another LSN has that of one of so many records. One that counts as changed and did not is
+-- newer.
+pub record AreMarked {P : Type 0} (count : ℕ) (old new : Pooled P) : Type 0 where
   pub later : (p : ℕ) → lsn_of (paged old p) ≤ lsn_of (paged new p)
+  pub within : (p : ℕ) → (lsn_of (paged new p) ≡ lsn_of (paged old p)) ⊎ (lsn_of (paged new p) ≤ count)
   pub newer : (p : ℕ) → is_changed new.changed p ≡ true
       → (is_changed old.changed p ≡ true) ⊎ (lsn_of (paged old p) < lsn_of (paged new p))
+
+-- the LSN of each page behind the superblock is that of one of so many records, or 0
+abbrev pub HaveLsnsWithin : Sizes → ℕ → Images → Type 0
+HaveLsnsWithin z count pages = (p : ℕ) → 1 ≤ p → p < page_count z → lsn_of (pages p) ≤ count
 
 -- what the slots of these pages hold
 abbrev pub slots_on : Sizes → Images → Slots

@@ -27,8 +27,8 @@ use Rattle.rq_store.specs.Fitting.{image_in}
 use Rattle.rq_analysis.specs.OpenWorkView.{open_work_of}
 use Rattle.rq_analysis.specs.Recovered.{IsRecovered}
 use Rattle.rq_restart.specs.RolledBack.{HasRepeated, IsAtBound, IsRolledBack, IsRolledBackOn}
-use Rattle.rq_restart.specs.Repeating.{AreMarked, Repeats, paged}
-use Rattle.rq_pool.specs.Fetching.{AreAllFramed, IsReadAsStored}
+use Rattle.rq_restart.specs.Repeating.{AreMarked, HaveLsnsWithin, Repeats, paged}
+use Rattle.rq_pool.specs.Fetching.{AreAllFramed}
 use Rattle.rq_pool.specs.Pooled.{IsPool, Pooled}
 use Rattle.rq_views.specs.Stored.{count_used, slots_in}
 use Rattle.rq_restart.specs.declared.restart.Report.{Report}
@@ -191,7 +191,7 @@ module _ {P L : Type 0} (p : page_device.Ghosts P) (l : log_device.Ghosts L) whe
     pub sizes : new.sizes ≡ old.sizes
     pub count : length new.frames ≡ length old.frames
     pub held : NoneHeld old.frames → NoneHeld new.frames
-    pub marked : IsReadAsStored p old new → AreMarked old new
+    pub marked : AreMarked (length now_records) old new
     pub pages_honest : p.honest new.device → p.honest old.device
     pub log_honest : l.honest now → l.honest log
     -- with each page in a frame, the device of the pages is left alone
@@ -208,6 +208,7 @@ module _ {P L : Type 0} (p : page_device.Ghosts P) (l : log_device.Ghosts L) whe
     pub continues : Continues first log [] now new.device new.records
     pub none_failed : NoneFailed p l first.device log now.device new.device
     pub pool : IsPool now.sizes now.images
+    pub within : HaveLsnsWithin now.sizes (length new.records) (paged now)
     pub cells_used : cells ≡ count_used now.sizes (slots_in now.sizes now.images)
     pub read : Logged L
     pub was_read : IsLogRead l log read

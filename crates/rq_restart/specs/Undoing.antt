@@ -80,7 +80,7 @@ pub record GoesOn {P L X : Type 0} (p : page_device.Ghosts P) (l : Ghosts L) (ol
   pub sizes : new.sizes ≡ old.sizes
   pub count : length new.frames ≡ length old.frames
   pub held : NoneHeld old.frames → NoneHeld new.frames
-  pub marked : IsReadAsStored p old new → AreMarked old new
+  pub marked : AreMarked (length now_records) old new
   pub pages_honest : p.honest new.device → p.honest old.device
   pub log_honest : l.honest now → l.honest log
   pub counted : OnOk result (NoneFailed p l old.device log new.device now)

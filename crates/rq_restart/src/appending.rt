@@ -110,7 +110,7 @@ pub(crate) fn append<P: PageDevice + Drop, L: LogDevice + Drop, B: Level>(
         log.new.device log.new.records }
     ensures running { log.new.failed ≡ false }
     ensures device { log.new.device ≡ log.old.device }
-    ensures marked { AreMarked pages.old pages.new }
+    ensures marked { AreMarked (length log.new.records) pages.old pages.new }
     ensures sizes { pages.new.sizes ≡ pages.old.sizes }
     ensures pages_device { pages.new.device ≡ pages.old.device }
     ensures frames { pages.new.frames ≡ pages.old.frames }
@@ -147,10 +147,11 @@ fn make<P: PageDevice + Drop, B: Level>(
     requires stands { StandsToWrite pages.old undo.now }
     ensures redone { IsTrue result → Redoes (told_by undo.now) lsn (image_in pages.old.images)
         (image_in pages.new.images) }
-    ensures marked { AreMarked pages.old pages.new }
+    ensures marked { AreMarked lsn pages.old pages.new }
     ensures same { told_by undo.now ≡ None → pages.new ≡ pages.old }
     ensures checked { IsTrue result → MayRedo pages.old.sizes (image_in pages.old.images) lsn undo.now }
-    ensures refused { result ≡ false → MayRedo pages.old.sizes (image_in pages.old.images) lsn undo.now → ⊥ }
+    ensures refused { result ≡ false → (pages.new ≡ pages.old)
+        × (MayRedo pages.old.sizes (image_in pages.old.images) lsn undo.now → ⊥) }
     ensures planner { planner.new ≡ planner.old }
     ensures sizes { pages.new.sizes ≡ pages.old.sizes }
     ensures device { pages.new.device ≡ pages.old.device }
@@ -174,7 +175,7 @@ fn make_write<P: PageDevice + Drop, B: Level>(
     requires stands { StandsToWrite pages.old undo.now }
     requires write { MayRedo pages.old.sizes (image_in pages.old.images) lsn undo.now }
     ensures redone { Redoes (told_by undo.now) lsn (image_in pages.old.images) (image_in pages.new.images) }
-    ensures marked { AreMarked pages.old pages.new }
+    ensures marked { AreMarked lsn pages.old pages.new }
     ensures same { told_by undo.now ≡ None → pages.new ≡ pages.old }
     ensures planner { planner.new ≡ planner.old }
     ensures sizes { pages.new.sizes ≡ pages.old.sizes }

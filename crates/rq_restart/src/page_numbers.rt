@@ -5,7 +5,7 @@ ghost use Rattle.rq_model.specs.declared.record.Record.{Record as AnyRecord};
 ghost use Rattle.rq_page.specs.Sizes.{page_count};
 ghost use Rattle.rq_pool.specs.Numbered.{number_in};
 ghost use Rattle.rq_restart.specs.Numbers.{AreNumbersOf, IsFirstBeyond, NamesFirst, NoneBeyond};
-ghost use Rattle.rq_restart.specs.Repeating.{ArePagesCounted, Repeats, paged};
+ghost use Rattle.rq_restart.specs.Repeating.{HaveLsnsWithin, ArePagesCounted, Repeats, paged};
 
 use rq_disk::PageDevice;
 use rq_model::refusal::{Damage, Refusal};
@@ -22,6 +22,7 @@ pub(crate) fn check_page_numbers<P: PageDevice>(
     ensures counted { OnOk result ((log : List AnyRecord) (first : Images) → records ≡ length log
         → Repeats pages.now.sizes log first (paged pages.now) → AreNumbersOf pages.now.sizes first ahead.now
         → ArePagesCounted pages.now.sizes (length log) first) }
+    ensures within { OnOk result (HaveLsnsWithin pages.now.sizes records (paged pages.now)) }
     ensures names { IfErr result (λ e. (log : List AnyRecord) (first : Images) → records ≡ length log
         → Repeats pages.now.sizes log first (paged pages.now) → AreNumbersOf pages.now.sizes first ahead.now
         → NamesFirst pages.now.sizes (length log) first e) }

@@ -160,7 +160,7 @@ fn check_and_redo<P: PageDevice + Drop, B: Level>(
         → IsAnalysisOf analysis.old older → FollowAll older → (IsTrue puts_back ↔ PutsBack analysis.old.open_work «record».now)
         → NotRepeated pages.old.sizes older «record».now (paged pages.old) e) }
     ensures err { IfErr result (λ e. NamesNoDevice e) }
-    ensures marked { AreMarked pages.old pages.new }
+    ensures marked { AreMarked lsn pages.old pages.new }
     ensures sizes { pages.new.sizes ≡ pages.old.sizes }
     ensures device { pages.new.device ≡ pages.old.device }
     ensures frames { pages.new.frames ≡ pages.old.frames }
@@ -225,7 +225,7 @@ fn apply<P: PageDevice + Drop, B: Level>(
     requires stands { StandsOrIsNewer pages.old lsn «record».now }
     requires write { MayRedo pages.old.sizes (image_in pages.old.images) lsn «record».now }
     ensures redone { Redoes (told_by «record».now) lsn (image_in pages.old.images) (image_in pages.new.images) }
-    ensures marked { AreMarked pages.old pages.new }
+    ensures marked { AreMarked lsn pages.old pages.new }
     ensures sizes { pages.new.sizes ≡ pages.old.sizes }
     ensures device { pages.new.device ≡ pages.old.device }
     ensures frames { pages.new.frames ≡ pages.old.frames }

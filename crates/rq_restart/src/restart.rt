@@ -9,7 +9,7 @@ ghost use Rattle.rq_page.specs.Sizes.{page_count};
 ghost use Rattle.rq_pool.specs.Fetching.{AreAllFramed};
 ghost use Rattle.rq_pool.specs.Pooled.{IsPool};
 ghost use Rattle.rq_analysis.specs.Rules.{FollowAll};
-ghost use Rattle.rq_restart.specs.Repeating.{Repeats, paged};
+ghost use Rattle.rq_restart.specs.Repeating.{HaveLsnsWithin, Repeats, paged};
 ghost use Rattle.rq_restart.specs.Opens.{KeepsStores, Opens, ReadWhereEnough, Refuses};
 ghost use Rattle.rq_restart.specs.Restarting.{Continues, IsBegun, IsLogRead, OpensLog, RefusesLog, IsReady, IsRestarted, LeavesLog, WasLeftOrForced};
 ghost use Rattle.rq_restart.specs.Refused.{BeginsNot, IsStoppedBehind, WhyShut};
@@ -300,6 +300,7 @@ fn finish_restart<P: PageDevice + Drop, L: LogDevice + Drop, B: Level>(
         → IsRead L.LogDevice log.old.device log.new.device) }
     ensures telling { GoesOnTelling L.LogDevice log.old.device log.new.device (IfErr result (λ e. e ≢ Refusal.DiskWrite)) }
     ensures pool { OnOk result (IsPool pages.new.sizes pages.new.images) }
+    ensures within { OnOk result (HaveLsnsWithin pages.old.sizes (length log.new.records) (paged pages.new)) }
     // What was checked, or why it was refused.
     ensures checked { OnOk result (HaveToldTruly P.PageDevice L.LogDevice pages.old pages.new log.new.device → (first : Images)
         → Repeats pages.old.sizes log.old.records first (paged pages.old)

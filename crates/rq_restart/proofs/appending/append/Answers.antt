@@ -6,7 +6,7 @@ use Rattle.rq_model.proofs.Bases.{standing_plain}
 use Rattle.rq_store.specs.Fitting.{image_in, told_by}
 use Rattle.rq_store.specs.Opening.{MayRedo, Redoes}
 use Rattle.rq_restart.specs.Found.{IsAnalysisOf, MayComeNext}
-use Rattle.rq_restart.specs.Repeating.{ArePagesCounted, paged}
+use Rattle.rq_restart.specs.Repeating.{AreMarked, ArePagesCounted, paged}
 use Rattle.rq_restart.specs.Undoing.{NamesNoDevice}
 use Rattle.rq_restart.proofs.Following.{next_of_found}
 use Rattle.rq_restart.proofs.Going.{found_next}
@@ -63,7 +63,8 @@ returns-clause-goes_on g c =
     let made = c.make.ensures in
     let device : c.append.new.self.device ≡ log.device = search rules in
     let grown : c.append.new.self.records ≡ c.args.undo.now ∷ log.records = search rules in
-    goes_in_memory g.P.PageDevice g.L.LogDevice g.met.L.LogDevice.only_now old new log.device c.append.new.self.device log.records (c.args.undo.now ∷ []) c.append.new.self.records _ tt made.sizes made.device made.frames device made.marked grown
+    let longer : c.last-lsn.result + 1 ≡ length c.append.new.self.records = (let e = ap length grown in let k = c.last-lsn.ensures in omega (arith, e, k)) in
+    goes_in_memory g.P.PageDevice g.L.LogDevice g.met.L.LogDevice.only_now old new log.device c.append.new.self.device log.records (c.args.undo.now ∷ []) c.append.new.self.records _ tt made.sizes made.device made.frames device (subst (λ n. AreMarked n old new) longer made.marked) grown
 
 pub returns-clause-found : goal.returns-clause-found
 returns-clause-found g c =
@@ -88,7 +89,7 @@ returns-in_err-note-clause-goes_on g c =
     let device : c.reserve.new.self.device ≡ log.device = search rules in
     let records : c.reserve.new.self.records ≡ log.records = search rules in
     let none : IfErr c.from_residual-in_err-note.result NamesNoDevice = search rules in
-    goes_in_memory g.P.PageDevice g.L.LogDevice g.met.L.LogDevice.only_now old old log.device c.reserve.new.self.device log.records [] c.reserve.new.self.records _ none refl refl refl device (same_marked old old refl) records
+    goes_in_memory g.P.PageDevice g.L.LogDevice g.met.L.LogDevice.only_now old old log.device c.reserve.new.self.device log.records [] c.reserve.new.self.records _ none refl refl refl device (same_marked (length c.reserve.new.self.records) old old refl) records
 
 pub returns-then-not-make-clause-goes_on : goal.returns-then-not-make-clause-goes_on
 returns-then-not-make-clause-goes_on g c =
@@ -96,4 +97,4 @@ returns-then-not-make-clause-goes_on g c =
     let made = c.make.ensures in
     let device : c.reserve.new.self.device ≡ log.device = search rules in
     let records : c.reserve.new.self.records ≡ log.records = search rules in
-    goes_in_memory g.P.PageDevice g.L.LogDevice g.met.L.LogDevice.only_now c.args.pages.now c.make.new.pages log.device c.reserve.new.self.device log.records [] c.reserve.new.self.records _ tt made.sizes made.device made.frames device made.marked records
+    goes_in_memory g.P.PageDevice g.L.LogDevice g.met.L.LogDevice.only_now c.args.pages.now c.make.new.pages log.device c.reserve.new.self.device log.records [] c.reserve.new.self.records _ tt made.sizes made.device made.frames device (same_marked (length c.reserve.new.self.records) c.args.pages.now c.make.new.pages (made.refused c.if-not-make.true).0) records
