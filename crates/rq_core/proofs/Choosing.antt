@@ -8,13 +8,19 @@ use Rattle.rq_core.specs.declared.happening.Entry.{Entry}
 use Rattle.rq_core.specs.declared.happening.Happening.{Happening as Happens}
 use Rattle.rq_core.specs.Happenings.{Answer, paired}
 use Rattle.rq_core.specs.Happenings.Answer.{Crashed}
-use Rattle.rq_core.specs.Chosen.{DoneSoFar, IfCrashed, IsChosen, Outlives, LedAsChosen, course_in, entered}
-use Rattle.rq_core.specs.Runs.{Fresh, Led, MemWorld}
+use Rattle.rq_core.specs.Chosen.{DoneSoFar, IfCrashed, IsChosen, IsRefusedIn, Outlives, LedAsChosen, course_in, entered}
+use Rattle.rq_core.specs.Runs.{Fresh, IsLeftBy, Led, MemWorld}
+use Rattle.rq_core.specs.World.World.{Is_shut}
 use Rattle.rq_core.specs.Views.{answer_in, course, happens}
 
 pub if_crashed : (a : Answer) (said : Type 0) → said → IfCrashed a said
 if_crashed (Crashed n) said h = h
 if_crashed _ said h = tt
+
+-- what answers that it crashed does not answer that it was refused
+pub crashed_not_refused : (frames : ℕ) (pages mid_pages : MemPages) (log mid_log : MemLog) (a : Answer) (new : MemWorld) → IsLeftBy mid_pages mid_log a new → IsRefusedIn frames pages log a new
+crashed_not_refused frames pages mid_pages log mid_log (Crashed n) (Is_shut new_pages new_log) left = tt
+crashed_not_refused frames pages mid_pages log mid_log _ _ left = absurd left
 
 -- of the devices of a store that was given up
 pub left_by : (o : Outlives) (pages old_pages : MemPages) (log old_log : MemLog) (new : MemWorld) → pages ≡ old_pages → log ≡ old_log → IsChosen o pages log new → IsChosen o old_pages old_log new

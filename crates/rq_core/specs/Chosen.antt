@@ -11,13 +11,14 @@ use Rattle.rq_engine.specs.declared.event.Event.TheVariants as event
 use Rattle.rq_engine.specs.declared.event.Reply.{Reply}
 use Rattle.rq_engine.specs.Applied.{Applied}
 use Rattle.rq_engine.specs.Opened.{OpenStore}
+use Rattle.rq_restart.specs.Opens.{Refuses}
 use Rattle.rq_core.specs.declared.happening.Choice.{Choice}
 use Rattle.rq_core.specs.declared.happening.Entry.{Entry}
 use Rattle.rq_core.specs.declared.happening.Happening.{Happening as Happens}
 use Rattle.rq_core.specs.declared.happening.Happening.TheVariants as happening
 use Rattle.rq_core.specs.Devices.{mem_pages, mem_log}
 use Rattle.rq_core.specs.Happenings.{Answer, Course}
-use Rattle.rq_core.specs.Happenings.Answer.{Crashed}
+use Rattle.rq_core.specs.Happenings.Answer.{Crashed, Refused}
 use Rattle.rq_core.specs.Happened as happened
 use Rattle.rq_core.specs.Runs.{Fresh, GivesUp, Happened, IsRefused, MemWorld}
 use Rattle.rq_core.specs.Views.{answer_in, happens}
@@ -47,12 +48,13 @@ pub record OpenLeavesChosen (o : Outlives) (e : Event) (old : OpenStore MemPages
   pub applied : Applied mem_pages mem_log old e told mid
   pub chosen : IsChosen o mid.pages mid.log new
 
--- of those that a restart left, which was refused
-pub record ShutLeavesChosen (o : Outlives) (pages : MemPages) (log : MemLog) (new : MemWorld) : Type 0 where
+-- of those that a restart left, which was refused as one in so many frames may be
+pub record ShutLeavesChosen (frames : ℕ) (o : Outlives) (pages : MemPages) (log : MemLog) (new : MemWorld) : Type 0 where
   pub refusal : Refusal
   pub mid_pages : MemPages
   pub mid_log : MemLog
   pub refused : IsRefused pages log refusal mid_pages mid_log
+  pub in_frames : Refuses mem_pages mem_log pages log frames refusal mid_pages mid_log
   pub chosen : IsChosen o mid_pages mid_log new
 
 abbrev pub IfCrashed : Answer → Type 0 → Type 0
@@ -71,6 +73,12 @@ abbrev pub HasFrames : ℕ → MemWorld → Type 0
 HasFrames frames (Is_open engine) = length engine.frames ≡ min (count_of engine.state.sizes) (frames + 1)
 HasFrames frames (Is_shut pages log) = Unit {0}
 
+-- where a restart was refused, so may be one in so many frames
+abbrev pub IsRefusedIn : ℕ → MemPages → MemLog → Answer → MemWorld → Type 0
+IsRefusedIn frames pages log (Refused r) (Is_shut new_pages new_log) =
+    Refuses mem_pages mem_log pages log frames r new_pages new_log
+IsRefusedIn frames pages log _ _ = Unit {0}
+
 -- a crash leaves of an open store what the happening chose
 abbrev pub OpenAsChosen : Happens → OpenStore MemPages MemLog → Answer → MemWorld → Type 0
 OpenAsChosen (happening.Crash choice) old answer new = OpenLeavesChosen (outlives choice) event.HandOver old new
@@ -79,12 +87,13 @@ OpenAsChosen (happening.StopIn e place choice) old answer new =
 OpenAsChosen _ _ _ _ = Unit {0}
 
 -- Of a store that is not open it leaves all that its devices hold, and in a restart what the happening chose. A restart opens it in
--- so many frames.
+-- so many frames, or is refused as one in them may be.
 abbrev pub ShutAsChosen : ℕ → Happens → MemPages → MemLog → Answer → MemWorld → Type 0
 ShutAsChosen frames (happening.Crash choice) pages log answer new = IsChosen all_outlives pages log new
-ShutAsChosen frames happening.Restart pages log answer new = HasFrames frames new
+ShutAsChosen frames happening.Restart pages log answer new = HasFrames frames new × IsRefusedIn frames pages log answer new
 ShutAsChosen frames (happening.RestartStop place choice) pages log answer new =
-    IfCrashed answer (ShutLeavesChosen (outlives choice) pages log new) × HasFrames frames new
+    IfCrashed answer (ShutLeavesChosen frames (outlives choice) pages log new) × HasFrames frames new
+    × IsRefusedIn frames pages log answer new
 ShutAsChosen _ _ _ _ _ _ = Unit {0}
 
 abbrev pub IsAsChosen : ℕ → Happens → MemWorld → Answer → MemWorld → Type 0
@@ -102,8 +111,8 @@ abbrev pub entered : DoneSoFar → List Happens → List Entry → DoneSoFar
 entered done (x ∷ xs) (e ∷ es) = entered ((x, e) ∷ done) xs es
 entered done _ _ = done
 
--- It led to this world, one happening after the other. Each crash left what was chosen, and each restart gave as many frames as
--- were asked for.
+-- It led to this world, one happening after the other. Each crash left what was chosen. Each restart gave as many frames as were
+-- asked for, or was refused as one in so many may be.
 abbrev pub LedAsChosen : Fresh → DoneSoFar → MemWorld → Type 0
 LedAsChosen first [] world = happened.Begins mem_pages mem_log first.sizes world
 LedAsChosen first (a ∷ done) world = (met : MemWorld) × LedAsChosen first done met

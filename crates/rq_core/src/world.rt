@@ -5,7 +5,9 @@ ghost use Rattle.rq_model.specs.History.{Call};
 ghost use Rattle.rq_model.specs.History.Call.{Acknowledge};
 ghost use Rattle.rq_engine.specs.Says.{call_of};
 ghost use Rattle.rq_disk.specs.Choice.{place_of};
-ghost use Rattle.rq_core.specs.Chosen.{all_outlives, HasFrames, IfCrashed, IsAsChosen, IsChosen, IsRunAsChosen, OpenAsChosen, OpenLeavesChosen, ShutAsChosen, ShutLeavesChosen};
+ghost use Rattle.rq_core.specs.Devices.{mem_log, mem_pages};
+ghost use Rattle.rq_restart.specs.Opens.{Refuses};
+ghost use Rattle.rq_core.specs.Chosen.{all_outlives, HasFrames, IfCrashed, IsRefusedIn, IsAsChosen, IsChosen, IsRunAsChosen, OpenAsChosen, OpenLeavesChosen, ShutAsChosen, ShutLeavesChosen};
 ghost use Rattle.rq_core.specs.Happenings.{Course, acknowledging, answers_of, is_of_device, nth};
 ghost use Rattle.rq_core.specs.Happenings.Happening.{Crashes, Restarts, Stops_in, Stops_restart};
 ghost use Rattle.rq_core.specs.Runs.{GivesUp, Happened, HappensIn, Is, IsFresh, IsHeadline, IsLeftBy, IsOpened, IsRefused, IsRun, Makes};
@@ -383,6 +385,7 @@ fn reopen<B: Level>(
 ) -> (WorldState<B>, Entry)
     ensures happened { HappensIn (Is Restarts) (Is_shut pages log) (answer_in result.1) (world_of result.0) }
     ensures frames { HasFrames frames.count (world_of result.0) }
+    ensures refused { IsRefusedIn frames.count pages log (answer_in result.1) (world_of result.0) }
 {
     match try_restart(alloc, pages, log, levels, frames) {
         Ok((engine, report)) => (WorldState::Open(engine), Entry::Restarted(report)),
@@ -407,12 +410,13 @@ fn reopen_stopped<B: Level>(
     images: PageChoice,
 ) -> (WorldState<B>, Entry)
     ensures happened { HappensIn (Is Stops_restart) (Is_shut pages log) (answer_in result.1) (world_of result.0) }
-    ensures chosen { IfCrashed (answer_in result.1) (ShutLeavesChosen (record {
+    ensures chosen { IfCrashed (answer_in result.1) (ShutLeavesChosen frames.count (record {
       keep = keep;
       torn = torn;
       places = place_of images;
     }) pages log (world_of result.0)) }
     ensures frames { HasFrames frames.count (world_of result.0) }
+    ensures refused { IsRefusedIn frames.count pages log (answer_in result.1) (world_of result.0) }
 {
     switch.arm_call(n, Mishap::Stop);
     let restarted = try_restart(alloc, pages, log, levels, frames);
@@ -440,6 +444,7 @@ fn try_restart<B: Level>(
     ensures opened { IfOk result (λ o. IsOpened pages log o.1 o.0) }
     ensures frames { IfOk result (λ o. HasFrames frames.count (Is_open o.0)) }
     ensures refused { IfErr result (λ s. IsRefused pages log s.refusal s.pages s.log) }
+    ensures refused_in { IfErr result (λ s. Refuses mem_pages mem_log pages log frames.count s.refusal s.pages s.log) }
 {
     restart(alloc, pages, log, levels, frames)
 }
