@@ -1,24 +1,19 @@
 -- What slots hold whose bytes spell it.
-use Rattle.std.proofs.Common.{◌≡◌, ℕ, ◌/◌, ◌%◌, ◌<◌, List, [], ◌∷◌, All, Option, Some, sym, ap, ◌∙◌, arith, subst}
-use Rattle.rq_page.specs.Sizes.{Sizes, IsCellAddress, client_at, client_count, client_slot_at, directory_at, sender_at, sender_count}
+use Rattle.std.proofs.Common.{◌≡◌, ℕ, ◌/◌, ◌%◌, ◌<◌, List, Option, Some, sym, ap, ◌∙◌, arith, subst}
+use Rattle.rq_page.specs.Sizes.{Sizes, IsCellAddress, directory_at, sender_at, sender_count}
 use Rattle.rq_page.specs.Kinds.{kind_of}
 use Rattle.rq_page.specs.Cells.{cell_slot_bytes}
-use Rattle.rq_page.specs.Clients.{IsClientSlot, client_bytes}
 use Rattle.rq_page.specs.Directories.{directory_bytes}
-use Rattle.rq_page.specs.Slots.{Slot, Client, Sender, held_in, of_cell_slot, of_directory_slot, slot_bytes, MayStand, MayHold, IsClientOf, IsDirectoryOf, IsSlotOf}
+use Rattle.rq_page.specs.Slots.{Slot, Sender, held_in, of_cell_slot, of_directory_slot, slot_bytes, MayStand, MayHold, IsDirectoryOf, IsSlotOf}
 use Rattle.rq_page.specs.declared.cell.CellSlot.{CellSlot}
-use Rattle.rq_page.specs.declared.client.ClientSlot.{ClientSlot}
 use Rattle.rq_page.specs.declared.directory.Directory.{Directory}
 use Rattle.rq_page.specs.declared.directory.DirectorySlot.{DirectorySlot}
 use Rattle.rq_page.specs.declared.layout.PageKind.{PageKind}
 use Rattle.rq_page.specs.declared.layout.PageKind.TheVariants as kind
-use Rattle.rq_page.proofs.Addresses.{clients_have_slots, kind_cells, kind_directory, kind_tags, senders_have_slots}
+use Rattle.rq_page.proofs.Addresses.{kind_cells, kind_directory, senders_have_slots}
 use Rattle.rq_page.proofs.Spellings.{spelling_tells, may_hold_cell, spelled_cell}
 use Rattle.rq_views.specs.Stored.{IsStoreSlot}
 use Rattle.rq_views.specs.Log.{Write}
-use Rattle.rq_level.specs.declared.writes.SlotWrite.{SlotWrite}
-use Rattle.rq_level.specs.Writes.{IsSlotWrite, AreSlotWrites}
-use Rattle.std.proofs.lemmas.List.Elements.{All-cons, All-nil}
 
 -- a write of these fields
 abbrev pub record_write : ℕ → Slot → Slot → Write
@@ -72,23 +67,6 @@ group_told z s a d bytes at below may spelled_so =
       place = directory_place z s below;
       told = ap (held_in z (directory_at s / 16)) spelled_so ∙ told.0;
       slot = subst (IsSlotOf z (directory_at s / 16) (directory_at s % 16)) (sym spelled_so) told.1;
-    })
-
--- the same of a client's slot
-pub client_told : (z : Sizes) (a : ℕ) (x : ClientSlot) (bytes : List ℕ) → a ≡ client_slot_at z x.client → x.client < client_count z
-    → IsClientSlot x → bytes ≡ client_bytes x → Told z a (Client x) bytes
-client_told z a x bytes at below numbers spelled_so =
-    let here = client_slot_at z x.client in
-    let place = clients_have_slots z x.client below in
-    let known : kind_of z (here / 16) ≡ Some kind.Tags = kind_tags z (here / 16) place.0 place.1 in
-    let fits : IsClientOf (client_at z (here / 16) (here % 16)) x = record { numbers = numbers; own = sym place.4 } in
-    let there : MayHold (kind_of z (here / 16)) z (here / 16) (here % 16) (Client x) =
-    subst (λ (k : Option PageKind). MayHold k z (here / 16) (here % 16) (Client x)) (sym known) fits in
-    let told = spelling_tells z (here / 16) (here % 16) (Client x) place.2 place.3 there in
-    subst (λ (n : ℕ). Told z n (Client x) bytes) (sym at) (record {
-      place = record { page_low = omega (arith, place.0); page_high = place.1; slot = place.2 };
-      told = ap (held_in z (here / 16)) spelled_so ∙ told.0;
-      slot = subst (IsSlotOf z (here / 16) (here % 16)) (sym spelled_so) told.1;
     })
 
 -- writes with the same fields

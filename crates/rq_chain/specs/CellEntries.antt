@@ -1,12 +1,9 @@
--- A sender's group, the cells beside those that an operation writes, and clients' slots that were given.
+-- A sender's group, and the cells beside those that an operation writes.
 use Rattle.std.specs.Prelude.{◌≡◌, ℕ, ◌<◌, ◌+◌, List, Option, Some, None}
 use Rattle.rq_page.specs.declared.cell.Cell.{Cell}
-use Rattle.rq_page.specs.declared.client.ClientSlot.{ClientSlot}
-use Rattle.rq_page.specs.Sizes.{Sizes, IsCellAddress, client_count, client_slot_at, directory_at, sender_count}
-use Rattle.rq_page.specs.Slots.{Client, IsCellOf, IsClientOf, IsDirectoryOf}
+use Rattle.rq_page.specs.Sizes.{Sizes, IsCellAddress, directory_at, sender_count}
+use Rattle.rq_page.specs.Slots.{IsCellOf, IsDirectoryOf}
 use Rattle.rq_page.specs.Cells.{cell_in, cell_bytes}
-use Rattle.rq_level.specs.Given.{GivenHolds}
-use Rattle.rq_level.specs.declared.slots.Given.{Given}
 use Rattle.rq_chain.specs.declared.CellEntry.{CellEntry}
 use Rattle.rq_chain.specs.declared.DirectoryEntry.{DirectoryEntry}
 
@@ -43,9 +40,3 @@ cell_appended g tag body = record {
   prev = g.directory.tail;
   body = body;
 }
-
--- the client is one of the store's, and its slot was given, which holds this
-pub record IsClientGiven (z : Sizes) (given : List Given) (c : ℕ) (held : ClientSlot) : Type 0 where
-  pub below : c < client_count z
-  pub holds : GivenHolds z given (client_slot_at z c) (Client held)
-  pub fits : IsClientOf c held

@@ -1,9 +1,8 @@
--- What the levels of chains and of tags are asked to do, as plain data.
+-- What the level of chains is asked to do, as plain data.
 use Rattle.std.specs.Prelude.{◌≤◌, Option, Some, None, length}
-use Rattle.rq_level.specs.Ops.{Doing as Asked, Send as Send_asked, Receive as Receive_asked, Close as Close_asked, Tagging as Tagging_asked}
+use Rattle.rq_level.specs.Ops.{Doing as Asked, Send as Send_asked, Receive as Receive_asked, Close as Close_asked}
 use Rattle.rq_chain.specs.declared.doing.Doing.{Doing}
 use Rattle.rq_chain.specs.declared.doing.Doing.TheVariants as doing
-use Rattle.rq_chain.specs.declared.doing.Tagging.{Tagging}
 
 abbrev pub told_one : Doing → Asked
 told_one (doing.Send s tag body) = Send_asked s tag body.now
@@ -19,7 +18,3 @@ abbrev pub IsShort : Doing → Type 0
 IsShort (doing.Send s tag body) = length body.now ≤ 216
 IsShort (doing.Receive s) = Unit {0}
 IsShort (doing.Close s) = Unit {0}
-
-abbrev pub told_tagging : Option Tagging → Option Tagging_asked
-told_tagging None = None
-told_tagging (Some t) = Some (record { client = t.client; tag = t.tag })

@@ -1,7 +1,7 @@
-//! What the levels of chains and of tags can be asked to do, in bytes.
-ghost use Rattle.std.specs.Prelude.{◌≡◌, IfSome, None, Some};
-ghost use Rattle.rq_level.specs.Ops.{doing_in, send_in, tagging_fields, tagging_in};
-ghost use Rattle.rq_chain.specs.Doings.{IsShort, told, told_tagging};
+//! What the level of chains can be asked to do, in bytes.
+ghost use Rattle.std.specs.Prelude.{◌≡◌, IfSome};
+ghost use Rattle.rq_level.specs.Ops.{doing_in, send_in};
+ghost use Rattle.rq_chain.specs.Doings.{IsShort, told};
 
 use byteorder::{BigEndian, ByteOrder};
 use rq_model::message::BODY_LIMIT;
@@ -66,35 +66,5 @@ fn read_send(fields: &[u8]) -> Option<Doing<'_>>
         sender: BigEndian::read_u32(fields),
         tag: BigEndian::read_u64(&fields[4..]),
         body: &fields[12..],
-    })
-}
-
-/// What the level of tags can be asked to do: to mark a tag for a client.
-#[derive(Clone, Copy)]
-pub(crate) struct Tagging {
-    pub(crate) client: u32,
-    pub(crate) tag: u64,
-}
-
-/// What these bytes ask the level of tags for; none where they ask it for nothing.
-pub(crate) fn read_tagging(bytes: &[u8]) -> Option<Tagging>
-    ensures { told_tagging result ≡ tagging_in bytes.now }
-{
-    match bytes {
-        [1, fields @ ..] => read_mark(fields),
-        _ => None,
-    }
-}
-
-// A mark by its fields.
-fn read_mark(fields: &[u8]) -> Option<Tagging>
-    ensures { told_tagging result ≡ tagging_fields fields.now }
-{
-    if fields.len() != 12 {
-        return None;
-    }
-    Some(Tagging {
-        client: BigEndian::read_u32(fields),
-        tag: BigEndian::read_u64(&fields[4..]),
     })
 }

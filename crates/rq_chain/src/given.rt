@@ -1,26 +1,21 @@
 //! What stands in slots that were given.
-ghost use Rattle.std.specs.Prelude.{◌≡◌, ◌<◌, IfSome, IfNone, None, Some, Option};
-ghost use Rattle.rq_page.specs.Sizes.{IsCellAddress, IsLink, client_count, client_slot_at, directory_at, sender_count};
+ghost use Rattle.std.specs.Prelude.{◌≡◌, ◌<◌, IfSome, IfNone, None, Option};
+ghost use Rattle.rq_page.specs.Sizes.{IsCellAddress, IsLink, directory_at, sender_count};
 ghost use Rattle.rq_page.specs.Cells.{cell_in};
-ghost use Rattle.rq_page.specs.Slots.{Client, Used, Sender};
-ghost use Rattle.rq_chain.specs.CellEntries.{cell_beside, IsCellEntryAt, IsClientGiven, IsGroupOf, IsNeighbour};
+ghost use Rattle.rq_page.specs.Slots.{Used, Sender};
+ghost use Rattle.rq_chain.specs.CellEntries.{cell_beside, IsCellEntryAt, IsGroupOf, IsNeighbour};
 ghost use Rattle.rq_page.specs.declared.cell.Cell.{Cell};
-ghost use Rattle.rq_page.specs.declared.client.ClientSlot.{ClientSlot};
 ghost use Rattle.rq_level.specs.Given.{given_at, AreGiven, GivenHolds};
 ghost use Rattle.rq_level.specs.ChainPlans.{Beside};
 
 use crate::{CellEntry, DirectoryEntry};
 use rq_level::Slots;
 use rq_page::addr::Addr;
-use rq_page::client::ClientSlot;
 use rq_page::directory::DirectorySlot;
 use rq_page::layout::Layout;
 
 /// The most messages that a group may have been sent.
 pub(crate) const SENT_LIMIT: u64 = 1 << 50;
-
-/// The most tags that a client may have marked.
-pub(crate) const MARK_LIMIT: u64 = 1 << 50;
 
 /// A sender's group, where its directory slot was given.
 pub(crate) fn group_given(layout: &Layout, given: &Slots, sender: u32) -> Option<DirectoryEntry>
@@ -38,20 +33,6 @@ pub(crate) fn group_given(layout: &Layout, given: &Slots, sender: u32) -> Option
         sender,
         directory: held.directory,
     })
-}
-
-/// What a client's slot holds, where the client is one of the store's and its slot was given.
-pub(crate) fn client_given(layout: &Layout, given: &Slots, client: u32) -> Option<ClientSlot>
-    requires { AreGiven layout.now given.now }
-    ensures some { IfSome result (λ held. IsClientGiven layout.now given.now client held) }
-    ensures none { IfNone result ((held : ClientSlot) → client < client_count layout.now
-        → GivenHolds layout.now given.now (client_slot_at layout.now client) (Client held) → ⊥) }
-{
-    if client >= layout.clients() {
-        return None;
-    }
-    let bytes = given.get(layout.client_slot_of(client))?;
-    ClientSlot::decode(bytes)
 }
 
 /// The cell at an address of a cell page, where its slot was given and is used.

@@ -1,24 +1,24 @@
 //! The chains of all senders as a level of recovery.
-ghost use Rattle.std.specs.Prelude.{◌≡◌, ◌<◌, ◌≤◌, IfOk, IfErr, IfSome, IfNone, OnErr, OnOk, None, Some, length, true, false};
+ghost use Rattle.std.specs.Prelude.{◌≡◌, ◌≤◌, IfOk, IfErr, IfSome, IfNone, OnErr, OnOk, None, Some, length, true, false};
 ghost use Rattle.std.specs.Bool.{OnTrue, OnFalse};
 ghost use Rattle.rq_page.specs.Sizes.{IsCellAddress, place_of};
-ghost use Rattle.rq_level.specs.LevelState.{LevelState, IsLowest, NoneToTake, NoneFree, SomeFree, reserved_at, told_sizes, is_cell_address, noted_cell, noted};
+ghost use Rattle.rq_level.specs.LevelState.{LevelState, IsLowest, NoneToTake, NoneFree, SomeFree, reserved_at, noted_cell, noted};
 ghost use Rattle.rq_level.specs.Given.{AreGiven};
-ghost use Rattle.rq_level.specs.ChainPlans.{CanSend, IsSent, RefusesTaking, CanReceive, IsReceived, RefusesOther, CanMark, IsMarked, IsClosed, CanUnlinkTail, IsTailUnlinked, CanPutBack, IsReturned, IsReopened, IsInverse, IsOfSender, Undoes};
+ghost use Rattle.rq_level.specs.ChainPlans.{CanSend, IsSent, RefusesTaking, CanReceive, IsReceived, RefusesOther, CanMark, IsMarked, IsClosed, CanUnlinkTail, IsTailUnlinked, CanPutBack, IsReturned, IsReopened, IsOfSender, Undoes};
 ghost use Rattle.rq_level.specs.Writes.{with_plan};
 ghost use Rattle.rq_level.specs.declared.writes.Plan.{Plan};
 ghost use Rattle.rq_chain.specs.Refusing.{NoCell};
 
 use crate::answers::answer;
 use crate::cells::FreeCells;
+use crate::common::{take_back, told_layout};
 use crate::doing::{Doing, read_doing};
 use crate::given::{SENT_LIMIT, beside_given, cell_given, group_given, head_of, tail_of};
 use crate::plans::{append, next_cell, put_back, set_closed, unlink_head, unlink_tail};
 use crate::wants::{body_in, next_in, prev_in, sequence_in, tag_in, wanted};
-use byteorder::{BigEndian, ByteOrder};
 use rq_level::{Gist, Level, Op, Outcome, PageSet, Plan, Replies, Slots, Want, redo_page};
 use rq_model::message::Body;
-use rq_model::record::{Deed, DeedBytes, Record, Slot};
+use rq_model::record::{Deed, Record, Slot};
 use rq_model::refusal::{Damage, NoMemory, Refusal};
 use rq_model::txn::Lsn;
 use rq_page::addr::Addr;
@@ -482,24 +482,4 @@ fn unlink_last(
         }
         Err(NoMemory) => Err(Refusal::NoMemory),
     }
-}
-
-/// Makes a plan that of an inverse, with the writes that stand there.
-pub(crate) fn take_back(plan: &mut Plan)
-    ensures writes { plan.new.writes ≡ plan.old.writes }
-    ensures inverse { IsInverse plan.new }
-{
-    plan.deed = DeedBytes::joined(&[], &[]);
-    plan.reply = Replies::Undone;
-}
-
-/// The layout that a superblock's slot tells, where a store may have it.
-pub(crate) fn told_layout(bytes: &Slot) -> Option<Layout>
-    ensures { result ≡ told_sizes bytes.now }
-{
-    Layout::new(
-        BigEndian::read_u32(&bytes[12..]),
-        BigEndian::read_u32(&bytes[16..]),
-        BigEndian::read_u32(&bytes[20..]),
-    )
 }

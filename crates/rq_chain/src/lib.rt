@@ -1,4 +1,4 @@
-//! Operations on the chain of a sender's cells and marks of clients' tags, as lists of slot writes.
+//! Operations on the chain of a sender's cells, as lists of slot writes.
 //!
 //! A sender's messages stand in cells that are linked both ways; its directory slot names the first and the
 //! last. An operation is planned whole from the slots as they are, and its writes are made one at a time.
@@ -6,22 +6,21 @@
 
 mod answers;
 mod cells;
+mod common;
 mod doing;
 mod given;
 mod level;
-mod marks;
 mod plans;
 mod spans;
-mod tags;
 mod wants;
 mod writes;
 
+pub use common::{slot_wanted, take_back, told_layout};
 pub use level::ChainLevel;
 pub use plans::{append, put_back, set_closed, unlink_head, unlink_tail};
 use rq_model::record::Slot;
 use rq_page::addr::Addr;
 use rq_page::directory::Directory;
-pub use tags::TagLevel;
 
 /// A used cell that was given: where it stands, and the bytes of its slot.
 #[derive(Clone, Copy)]

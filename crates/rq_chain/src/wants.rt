@@ -4,10 +4,10 @@ ghost use Rattle.rq_bytes.specs.Number.{number_at};
 ghost use Rattle.rq_page.specs.Cells.{cell_in};
 ghost use Rattle.rq_page.specs.Directories.{directory_in};
 ghost use Rattle.rq_page.specs.Sizes.{directory_at};
-ghost use Rattle.rq_level.specs.ChainPlans.{along_from, job_wanted, to_next, to_prev, unless_given};
-ghost use Rattle.rq_level.specs.Given.{given_at};
+ghost use Rattle.rq_level.specs.ChainPlans.{along_from, job_wanted, to_next, to_prev};
 ghost use Rattle.rq_chain.specs.Spans.{span_wanted};
 
+use crate::common::slot_wanted;
 use crate::spans::{Reach, Span, span_of};
 use byteorder::{BigEndian, ByteOrder};
 use rq_level::{Op, Slots};
@@ -48,16 +48,6 @@ fn directory_addr(sender: u32) -> Addr
     ensures { result ≡ directory_at sender }
 {
     Addr::new(1 + sender / SLOTS, (1 + sender % SLOTS) as u8)
-}
-
-/// The slot, where it was not given.
-pub(crate) fn slot_wanted(at: Addr, given: &Slots) -> Option<Addr>
-    ensures { result ≡ unless_given at (given_at at given.now) }
-{
-    match given.get(at) {
-        None => Some(at),
-        Some(_) => None,
-    }
 }
 
 // The slot that a link names, where it was not given.

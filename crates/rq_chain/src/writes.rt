@@ -1,13 +1,12 @@
 //! Writes of single slots.
-ghost use Rattle.std.specs.Prelude.{◌≡◌, ◌<◌, ◌≤◌, ◌++◌, [], ◌∷◌, OnOk};
+ghost use Rattle.std.specs.Prelude.{◌≡◌, ◌≤◌, ◌++◌, [], ◌∷◌, OnOk};
 ghost use Rattle.rq_bytes.specs.Number.{with_number};
 ghost use Rattle.rq_page.specs.Cells.{cell_bytes, cell_in};
-ghost use Rattle.rq_page.specs.Clients.{IsClientSlot};
-ghost use Rattle.rq_page.specs.Sizes.{IsCellAddress, client_count};
+ghost use Rattle.rq_page.specs.Sizes.{IsCellAddress};
 ghost use Rattle.rq_page.specs.declared.cell.Cell.{Cell};
 ghost use Rattle.rq_page.specs.Slots.{Free, IsCellOf, IsDirectoryOf, Used};
 ghost use Rattle.rq_views.specs.Items.{layout_of};
-ghost use Rattle.rq_views.specs.Plans.{client_write, directory_write, with_next, with_prev};
+ghost use Rattle.rq_views.specs.Plans.{directory_write, with_next, with_prev};
 ghost use Rattle.rq_level.specs.Writes.{write_of, IsSlotWrite};
 ghost use Rattle.rq_chain.specs.CellEntries.{IsGroupOf, IsCellEntryAt};
 
@@ -18,7 +17,6 @@ use rq_model::record::Slot;
 use rq_model::refusal::NoMemory;
 use rq_page::addr::Addr;
 use rq_page::cell::{Cell, CellSlot};
-use rq_page::client::ClientSlot;
 use rq_page::directory::{Directory, DirectorySlot};
 use rq_page::layout::Layout;
 
@@ -82,25 +80,6 @@ fn directory_slot(sender: u32, directory: &Directory) -> DirectorySlot
     DirectorySlot {
         sender,
         directory: *directory,
-    }
-}
-
-/// The write that has a client's slot hold something else.
-#[inline(always)]
-pub(crate) fn client_write(layout: &Layout, held: &ClientSlot, after: &ClientSlot) -> SlotWrite
-    requires below { held.now.client < client_count layout.now }
-    requires held { IsClientSlot held.now }
-    requires after { IsClientSlot after.now }
-    requires same { after.now.client ≡ held.now.client }
-    ensures write { write_of layout.now result ≡ client_write (layout_of layout.now) held.now after.now }
-    ensures slots { IsSlotWrite layout.now result }
-{
-    let at = layout.client_slot_of(held.client);
-    prove!(at.page() < layout.pages() as u64);
-    SlotWrite {
-        at,
-        before: held.encode(),
-        after: after.encode(),
     }
 }
 

@@ -2,7 +2,7 @@
 ghost use Rattle.std.specs.Prelude.{◌≡◌, IfOk, length};
 ghost use Rattle.rq_level.specs.Meaning.{level_count};
 
-use rq_chain::{ChainLevel, TagLevel};
+use rq_chain::ChainLevel;
 use rq_level::{Level, Op, Outcome, PageSet, Plan, Slots, Want};
 use rq_model::record::{Record, Slot};
 use rq_model::refusal::Refusal;
@@ -11,6 +11,7 @@ use rq_page::addr::Addr;
 use rq_page::page::Page;
 use rq_pageops::PageLevel;
 use rq_planner::StoreLevels;
+use rq_tags::TagLevel;
 use std::alloc::{AllocError, Global};
 
 /// One of the three levels of a store.

@@ -3,7 +3,7 @@ ghost use Rattle.std.specs.Prelude.{◌≡◌, IfOk, None};
 ghost use Rattle.rq_level.specs.LevelState.{HasRoom};
 ghost use Rattle.rq_levels.specs.Words.{kept_of, number_of};
 
-use rq_chain::{ChainLevel, TagLevel};
+use rq_chain::ChainLevel;
 use rq_level::{Level, Op, Outcome, PageSet, Plan, Slots, Want, redo_page};
 use rq_levels::StoreLevel;
 use rq_model::record::{Record, Slot};
@@ -12,6 +12,7 @@ use rq_model::txn::Lsn;
 use rq_page::addr::Addr;
 use rq_page::page::Page;
 use rq_pageops::PageLevel;
+use rq_tags::TagLevel;
 use std::alloc::{AllocError, Global};
 use std::sync::Arc;
 use std::sync::atomic::{AtomicU64, Ordering};

@@ -8,11 +8,10 @@ ghost use Rattle.rq_level.specs.Given.{AreGiven};
 ghost use Rattle.rq_level.specs.LevelState.{LevelState};
 ghost use Rattle.rq_level.specs.TagPlans.{CanTag, CanUntag, IsTagPlan, IsUntagPlan, RefusesTag};
 ghost use Rattle.rq_level.specs.Writes.{AreSlotWrites, writes_of};
-ghost use Rattle.rq_chain.specs.Refusing.{IsOfClient};
+ghost use Rattle.rq_tags.specs.Clients.{IsOfClient};
 
-use crate::given::{MARK_LIMIT, client_given};
-use crate::level::take_back;
-use crate::writes::client_write;
+use crate::slots::{MARK_LIMIT, client_given, client_write};
+use rq_chain::take_back;
 use rq_level::{Gist, Plan, Replies, SlotWrite, Slots, put_only};
 use rq_model::refusal::{Damage, NoMemory, Refusal};
 use rq_page::client::ClientSlot;

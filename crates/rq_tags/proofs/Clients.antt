@@ -1,18 +1,18 @@
 -- Clients' slots that were given, and plans of marks.
-use Rattle.std.proofs.Common.{◌≡◌, ◌≢◌, ℕ, ◌+◌, ◌-◌, ◌/◌, ◌%◌, ◌<◌, ◌≤◌, ◌^◌, List, [], ◌∷◌, reverse, Bool, true, false, cond, nat_eq, Option, None, Some, IfNone, IfSome, refl, sym, ap, ◌∙◌, subst}
+use Rattle.std.proofs.Common.{arith, ◌≡◌, ◌≢◌, ℕ, ◌+◌, ◌-◌, ◌/◌, ◌%◌, ◌<◌, ◌≤◌, ◌^◌, List, [], ◌∷◌, reverse, Bool, true, false, cond, nat_eq, Option, None, Some, IfNone, IfSome, refl, sym, ap, ◌∙◌, subst}
 use Rattle.std.proofs.lemmas.Bool.{eqb-true}
 use Rattle.rq_model.specs.declared.record.Deed.TheVariants.{Mark}
 use Rattle.rq_model.specs.Deeds.{deed_by, spelled_deed}
 use Rattle.rq_page.specs.Clients.{IsClientSlot, client_bytes, client_in}
 use Rattle.rq_page.specs.Kinds.{kind_of}
-use Rattle.rq_page.specs.Sizes.{Sizes, client_count, client_slot_at}
-use Rattle.rq_page.specs.Slots.{Client, HoldsClient, IsSlotFor, held_for, held_in}
+use Rattle.rq_page.specs.Sizes.{Sizes, client_at, client_count, client_slot_at}
+use Rattle.rq_page.specs.Slots.{Client, HoldsClient, IsClientOf, IsSlotFor, IsSlotOf, MayHold, held_for, held_in}
 use Rattle.rq_page.specs.declared.client.ClientSlot.{ClientSlot}
 use Rattle.rq_page.specs.declared.layout.PageKind.{PageKind}
 use Rattle.rq_page.specs.declared.layout.PageKind.TheVariants as kind
 use Rattle.rq_page.proofs.Addresses.{clients_have_slots, kind_tags}
 use Rattle.rq_page.proofs.ClientBytes.{client_in-client_bytes}
-use Rattle.rq_page.proofs.Spellings.{held_client}
+use Rattle.rq_page.proofs.Spellings.{held_client, spelling_tells}
 use Rattle.rq_views.specs.Items.{layout_of}
 use Rattle.rq_views.specs.Plans.{client_write}
 use Rattle.rq_level.specs.ChainPlans.{IsInverse}
@@ -25,8 +25,26 @@ use Rattle.rq_level.specs.declared.slots.Given.{Given}
 use Rattle.rq_level.specs.declared.writes.Plan.{Plan}
 use Rattle.rq_level.specs.declared.writes.Gist.TheVariants as gists
 use Rattle.rq_level.specs.declared.writes.Replies.TheVariants as replies
-use Rattle.rq_chain.specs.CellEntries.{IsClientGiven}
 use Rattle.rq_chain.proofs.Givens.{given_is, holds}
+use Rattle.rq_chain.proofs.Slots.{Told}
+use Rattle.rq_tags.specs.Clients.{IsClientGiven}
+
+-- what is known of bytes that spell what a client's slot holds
+pub client_told : (z : Sizes) (a : ℕ) (x : ClientSlot) (bytes : List ℕ) → a ≡ client_slot_at z x.client → x.client < client_count z
+    → IsClientSlot x → bytes ≡ client_bytes x → Told z a (Client x) bytes
+client_told z a x bytes at below numbers spelled_so =
+    let here = client_slot_at z x.client in
+    let place = clients_have_slots z x.client below in
+    let known : kind_of z (here / 16) ≡ Some kind.Tags = kind_tags z (here / 16) place.0 place.1 in
+    let fits : IsClientOf (client_at z (here / 16) (here % 16)) x = record { numbers = numbers; own = sym place.4 } in
+    let there : MayHold (kind_of z (here / 16)) z (here / 16) (here % 16) (Client x) =
+    subst (λ (k : Option PageKind). MayHold k z (here / 16) (here % 16) (Client x)) (sym known) fits in
+    let told = spelling_tells z (here / 16) (here % 16) (Client x) place.2 place.3 there in
+    subst (λ (n : ℕ). Told z n (Client x) bytes) (sym at) (record {
+      place = record { page_low = omega (arith, place.0); page_high = place.1; slot = place.2 };
+      told = ap (held_in z (here / 16)) spelled_so ∙ told.0;
+      slot = subst (IsSlotOf z (here / 16) (here % 16)) (sym spelled_so) told.1;
+    })
 
 module _ (z : Sizes) (given : List Given) (c a : ℕ) (bytes : List ℕ) (below : c < client_count z) (all : AreGiven z given) (at : a ≡ client_slot_at z c) (e : given_at a given ≡ Some bytes) where
   known : kind_of z (client_slot_at z c / 16) ≡ Some kind.Tags

@@ -1,6 +1,6 @@
 use Rattle.std.proofs.Common.{arith}
-use Rattle.rq_chain.proofs.Clients.{client_found, client_missing}
-use Rattle.rq_chain.proofs.given.client_given.Goals as goal
+use Rattle.rq_tags.proofs.Clients.{client_found, client_missing}
+use Rattle.rq_tags.proofs.slots.client_given.Goals as goal
 
 pub returns-clause-some : goal.returns-clause-some
 returns-clause-some c =

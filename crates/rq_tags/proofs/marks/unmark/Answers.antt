@@ -1,6 +1,6 @@
 use Rattle.std.proofs.Common.{arith}
-use Rattle.rq_chain.proofs.Clients.{is_untag_plan}
-use Rattle.rq_chain.proofs.marks.unmark.Goals as goal
+use Rattle.rq_tags.proofs.Clients.{is_untag_plan}
+use Rattle.rq_tags.proofs.marks.unmark.Goals as goal
 
 pub returns-in_default-clause-err : goal.returns-in_default-clause-err
 returns-in_default-clause-err c = (c.damage_of.ensures, λ can. c.in_default.ensures.none can.held can.below can.held_is)

@@ -1,18 +1,17 @@
 //! The tags of clients as a level of recovery.
-ghost use Rattle.std.specs.Prelude.{◌≡◌, ◌≤◌, cond, None, Some, option_map};
+ghost use Rattle.std.specs.Prelude.{◌≡◌, ◌≤◌, cond, Some, option_map};
 ghost use Rattle.rq_model.specs.Deeds.{deed_by, mark_in};
 ghost use Rattle.rq_level.specs.Writes.{answer_of, with_plan};
 ghost use Rattle.rq_level.specs.Given.{AreGiven};
 ghost use Rattle.rq_level.specs.LevelState.{LevelState, nothing_kept};
 ghost use Rattle.rq_level.specs.Ops.{tagging_by, tagging_in};
 ghost use Rattle.rq_level.specs.TagPlans.{UndoesTag, client_marked, client_to_mark, tag_note, tag_wants};
-ghost use Rattle.rq_chain.specs.Doings.{told_tagging};
+ghost use Rattle.rq_tags.specs.Doings.{told_tagging};
 
 use crate::doing::{Tagging, read_tagging};
-use crate::level::told_layout;
 use crate::marks::{mark, unmark};
-use crate::wants::slot_wanted;
 use byteorder::{BigEndian, ByteOrder};
+use rq_chain::{slot_wanted, told_layout};
 use rq_level::{Level, Op, Outcome, PageSet, Plan, Slots, Want, redo_page};
 use rq_model::record::{Deed, Record, Slot};
 use rq_model::refusal::{Damage, Refusal};

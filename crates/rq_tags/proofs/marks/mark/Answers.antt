@@ -1,6 +1,6 @@
 use Rattle.std.proofs.Common.{arith, refl}
-use Rattle.rq_chain.proofs.Clients.{is_tag_plan}
-use Rattle.rq_chain.proofs.marks.mark.Goals as goal
+use Rattle.rq_tags.proofs.Clients.{is_tag_plan}
+use Rattle.rq_tags.proofs.marks.mark.Goals as goal
 
 pub returns-in_default-clause-err : goal.returns-in_default-clause-err
 returns-in_default-clause-err c = (c.damage_of.ensures, λ can. c.in_default.ensures.none can.held can.below can.held_is)

@@ -1,5 +1,6 @@
-use Rattle.rq_chain.proofs.Slots.{client_told, same_write_at}
-use Rattle.rq_chain.proofs.writes.client_write.Goals as goal
+use Rattle.rq_chain.proofs.Slots.{same_write_at}
+use Rattle.rq_tags.proofs.Clients.{client_told}
+use Rattle.rq_tags.proofs.slots.client_write.Goals as goal
 
 pub returns-clause-write : goal.returns-clause-write
 returns-clause-write c =
