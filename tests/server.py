@@ -30,7 +30,7 @@ from shim import failing
 sys.dont_write_bytecode = True
 sys.path.insert(0, str(TOP / "clients" / "python"))
 from rqm import (  # noqa: E402
-    ClientBusy, Closed, Connection, DiskWrite, Failed, Full, Lost, Passing, PoolFull, ReceiverBusy, SenderBusy, TooManyTransactions,
+    ClientBusy, Closed, Connection, Damaged, DiskWrite, Failed, Full, Lost, Passing, PoolFull, ReceiverBusy, SenderBusy, TooManyTransactions,
     UnknownClient, UnknownSender, UnknownTransaction,
 )  # fmt: skip
 
@@ -660,6 +660,41 @@ def few_frames(program, _):
                 assert (len(refused) > before) == (frames == 8), refused
     assert taken[1] - max(taken[0], taken[2]) > pages * 3000, taken
     return f"{taken[0] >> 20}, {taken[1] >> 20} and {taken[2] >> 20} MB, {len(refused)} times PoolFull"
+
+
+def lost_write(program, _):
+    """A page whose last write the disk lost is found out where it is read again, each time. Another group is served. The next start makes
+    the page from the log, as no checkpoint came between."""
+    senders = range(15, 300, 15)
+    with store(program, directory=20, cells=20) as folder:
+        with serving(program, folder, "--frames", 8) as server, server.connect() as connection:
+            first = sent_and_out(connection, folder, 1, senders)
+            assert sent_and_out(connection, folder, 2, senders) != first
+            with open(folder / "pages", "r+b") as file:
+                file.seek(4096)
+                file.write(first)
+            for _ in range(2):
+                with connection.transaction() as transaction:
+                    raises(Damaged, lambda: transaction.send(0, 3, b"lost"))
+                    raises(Damaged, lambda: transaction.receive_from(0))
+                    assert transaction.receive_from(15) == (15, 1, b"other")
+                    transaction.abort()
+        with serving(program, folder, "--frames", 8) as server, server.connect() as connection:
+            assert connection.last_tag(0) == (2, 2)
+            with connection.transaction() as transaction:
+                assert [transaction.receive_from(0) for _ in range(3)] == [(0, 1, b"kept"), (0, 2, b"kept"), None]
+
+
+def sent_and_out(connection, folder, tag, senders):
+    """The first page of the directory as it was written out, once a message was sent there and these senders' pages took its frame."""
+    with connection.transaction() as transaction:
+        transaction.send(0, tag, b"kept")
+    for sender in senders:
+        with connection.transaction() as transaction:
+            transaction.send(sender, tag, b"other")
+    with open(folder / "pages", "rb") as file:
+        file.seek(4096)
+        return file.read(4096)
 
 
 def in_frames(refused, call):
@@ -1515,7 +1550,7 @@ def raises(kind, call):
 
 TESTS = [
     starts, session, closing, marking, faults, bodies, pieces, damaged_streams, lost_connections, ends_inside_a_frame,
-    answers_before_a_fault, parted_clients, unread_answers, shared_forces, few_frames, failing_force, input_ends, served,
+    answers_before_a_fault, parted_clients, unread_answers, shared_forces, few_frames, lost_write, failing_force, input_ends, served,
     silent_reader, slow_clients, few_descriptors, leaves_nothing, short_logs, quiet_checkpoints, failing_checkpoint, missing_threads, worker_without_reports,
     refused_connections, many_connections, full_disk, client, lost_answers, batches, sessions,
 ]  # fmt: skip

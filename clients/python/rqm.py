@@ -186,7 +186,7 @@ class DiskWrite(Refused):
 
 
 class Damaged(Refused):
-    """The store's bytes break its format."""
+    """A page or a record breaks the format, or is not as it was written."""
 
     number = 16
 
