@@ -14,7 +14,7 @@ use crate::cells::FreeCells;
 use crate::common::{take_back, told_layout};
 use crate::doing::{Doing, read_doing};
 use crate::given::{SENT_LIMIT, beside_given, cell_given, group_given, head_of, tail_of};
-use crate::plans::{append, next_cell, put_back, set_closed, unlink_head, unlink_tail};
+use crate::plans::{append, put_back, set_closed, unlink_head, unlink_tail};
 use crate::wants::{body_in, next_in, prev_in, sequence_in, tag_in, wanted};
 use rq_level::{Gist, Level, Op, Outcome, PageSet, Plan, Replies, Slots, Want, redo_page};
 use rq_model::message::Body;
@@ -152,19 +152,12 @@ impl ChainLevel {
         let Some(free) = self.lowest(layout, latched) else {
             return Err(self.no_cell(layout, sender));
         };
-        let new = next_cell(layout, &group, tag, body);
-        let Ok(()) = append(&mut plan.writes, layout, &group, &tail, free, &new) else {
+        let Ok(()) = append(&mut plan.writes, layout, &group, &tail, free, tag, body) else {
             return Err(Refusal::NoMemory);
         };
         self.reserve(layout, free);
         let directory = &group.directory;
-        plan.deed = encode_append(
-            sender,
-            directory.sent + 1,
-            tag,
-            directory.last_tag,
-            &new.body,
-        );
+        plan.deed = encode_append(sender, directory.sent + 1, tag, directory.last_tag, body);
         plan.reply = Replies::Deed(Gist::Append { sender, tag });
         Ok(())
     }
@@ -202,7 +195,7 @@ impl ChainLevel {
             return Err(Refusal::NoMemory);
         };
         let sequence = group.directory.received + 1;
-        plan.deed = encode_unlink_head(sender, sequence, tag_in(head.bytes), &body_in(head.bytes));
+        plan.deed = encode_unlink_head(sender, sequence, tag_in(head.bytes), body_in(head.bytes));
         plan.reply = Replies::Deed(Gist::UnlinkHead { sender });
         Ok(())
     }

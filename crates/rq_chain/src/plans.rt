@@ -1,6 +1,6 @@
 //! The plans of chain operations.
 ghost use Rattle.std.specs.Prelude.{◌≡◌, ◌+◌, ◌-◌, ◌^◌, ◌<◌, ◌≤◌, OnOk, length, reverse, [], ◌∷◌};
-ghost use Rattle.rq_page.specs.Cells.{cell_in};
+ghost use Rattle.rq_page.specs.Cells.{cell_bytes, cell_in};
 ghost use Rattle.rq_page.specs.Sizes.{IsCellAddress};
 ghost use Rattle.rq_page.specs.Slots.{IsCellOf, IsDirectoryOf, Used};
 ghost use Rattle.rq_views.specs.Chain.{directory_appended};
@@ -16,9 +16,10 @@ use crate::writes::{
 use crate::{CellEntry, DirectoryEntry};
 use rq_level::{SlotWrite, put_only};
 use rq_model::message::{BODY_LIMIT, Body};
+use rq_model::record::Slot;
 use rq_model::refusal::NoMemory;
 use rq_page::addr::Addr;
-use rq_page::cell::Cell;
+use rq_page::cell::{Cell, spell_cell};
 use rq_page::directory::Directory;
 use rq_page::layout::Layout;
 
@@ -29,20 +30,20 @@ pub fn append(
     group: &DirectoryEntry,
     tail: &Option<CellEntry>,
     free: Addr,
-    new: &Cell,
+    tag: u64,
+    body: &[u8],
 ) -> Result<(), NoMemory>
     requires room { group.now.directory.sent < 2 ^ 64 - 1 }
-    requires new { new.now ≡ cell_appended group.now new.now.tag new.now.body }
-    requires fits { IsCellOf layout.now new.now }
+    requires short { length body.now ≤ 216 }
     requires group { IsGroupOf layout.now group.now }
     requires tail { IsNeighbour layout.now group.now.directory.tail tail.now }
     requires free { IsCellAddress layout.now free }
     ensures writes { OnOk result (reverse (writes_of layout.now writes.new.items)
-        ≡ append_writes (layout_of layout.now) group.now.sender group.now.directory free new.now.tag new.now.body (cell_beside tail.now)) }
+        ≡ append_writes (layout_of layout.now) group.now.sender group.now.directory free tag body.now (cell_beside tail.now)) }
     ensures slots { OnOk result (AreSlotWrites layout.now writes.new.items) }
 {
-    let first = filled(layout, free, new);
-    let last = group_write(layout, group, &appended(layout, group, free, new.tag));
+    let first = filled(layout, free, next_slot(layout, group, tag, body));
+    let last = group_write(layout, group, &appended(layout, group, free, tag));
     match tail {
         None => put_pair(writes, first, last),
         Some(before) => put_triple(writes, first, link_write(layout, before, free), last),
@@ -120,7 +121,7 @@ pub fn put_back(
     ensures slots { OnOk result (AreSlotWrites layout.now writes.new.items) }
 {
     let new = returned_cell(layout, group, tag, body);
-    let first = filled(layout, free, &new);
+    let first = filled(layout, free, new.encode());
     let last = group_write(layout, group, &returned(layout, group, free));
     match head {
         None => put_pair(writes, first, last),
@@ -145,24 +146,24 @@ pub fn set_closed(
     put_only(writes, write)
 }
 
-/// The cell of a group's next message.
+// The slot of a group's next message.
 #[inline(always)]
-pub(crate) fn next_cell(layout: &Layout, group: &DirectoryEntry, tag: u64, body: &[u8]) -> Cell
+fn next_slot(layout: &Layout, group: &DirectoryEntry, tag: u64, body: &[u8]) -> Slot
     requires room { group.now.directory.sent < 2 ^ 64 - 1 }
     requires group { IsGroupOf layout.now group.now }
     requires short { length body.now ≤ 216 }
-    ensures cell { result ≡ cell_appended group.now tag body.now }
-    ensures fits { IsCellOf layout.now result }
+    ensures bytes { result ≡ cell_bytes (cell_appended group.now tag body.now) }
+    ensures fits { IsCellOf layout.now (cell_appended group.now tag body.now) }
 {
     prove!(group.sender < layout.senders());
-    Cell {
-        sender: group.sender,
-        sequence: group.directory.sent + 1,
+    spell_cell(
+        group.sender,
+        group.directory.sent + 1,
         tag,
-        next: Addr::NONE,
-        prev: group.directory.tail,
-        body: Body::joined(&[], body),
-    }
+        Addr::NONE,
+        group.directory.tail,
+        body,
+    )
 }
 
 // What the directory says of a group with one message more, which stands in this cell.

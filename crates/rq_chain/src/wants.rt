@@ -11,7 +11,6 @@ use crate::common::slot_wanted;
 use crate::spans::{Reach, Span, span_of};
 use byteorder::{BigEndian, ByteOrder};
 use rq_level::{Op, Slots};
-use rq_model::message::Body;
 use rq_model::record::Slot;
 use rq_page::addr::Addr;
 use rq_page::layout::SLOTS;
@@ -145,12 +144,13 @@ pub(crate) fn tag_in(bytes: &Slot) -> u64
 }
 
 #[tactic(auto, unfolding(rq_page::specs::Cells::cell_in))]
-pub(crate) fn body_in(bytes: &Slot) -> Body
+pub(crate) fn body_in(bytes: &Slot) -> &[u8]
     requires { number_at 2 2 bytes.now ≤ 216 }
-    ensures { result ≡ (cell_in bytes.now).body }
+    ensures body { result.now ≡ (cell_in bytes.now).body }
+    ensures short { length result.now ≤ 216 }
 {
     let length = BigEndian::read_u16(&bytes[2..]) as usize;
-    Body::joined(&[], &bytes[40..40 + length])
+    &bytes[40..40 + length]
 }
 
 fn u64_at(bytes: &[u8], at: usize) -> u64

@@ -16,23 +16,23 @@ use rq_level::{SlotWrite, put_only};
 use rq_model::record::Slot;
 use rq_model::refusal::NoMemory;
 use rq_page::addr::Addr;
-use rq_page::cell::{Cell, CellSlot};
+use rq_page::cell::CellSlot;
 use rq_page::directory::{Directory, DirectorySlot};
 use rq_page::layout::Layout;
 
-/// The write that fills a free cell.
+/// The write that has the slot of a free cell spell one that is used.
 #[inline(always)]
-pub(crate) fn filled(layout: &Layout, at: Addr, cell: &Cell) -> SlotWrite
-    requires at { IsCellAddress layout.now at }
-    requires cell { IsCellOf layout.now cell.now }
-    ensures write { write_of layout.now result ≡ record { at = at; before = Free; after = Used cell.now } }
-    ensures slots { IsSlotWrite layout.now result }
+pub(crate) fn filled(layout: &Layout, at: Addr, after: Slot) -> SlotWrite
+    requires { IsCellAddress layout.now at }
+    ensures write { (c : Cell) → IsCellOf layout.now c → after ≡ cell_bytes c
+        → write_of layout.now result ≡ record { at = at; before = Free; after = Used c } }
+    ensures slots { (c : Cell) → IsCellOf layout.now c → after ≡ cell_bytes c → IsSlotWrite layout.now result }
 {
     prove!(at.page() < layout.pages() as u64);
     SlotWrite {
         at,
         before: CellSlot::Free.encode(),
-        after: cell.encode(),
+        after,
     }
 }
 

@@ -1,19 +1,17 @@
 //! Plans on the chain of a group. A plan is compared as writes over what the slots hold.
-ghost use Rattle.std.specs.Prelude.{◌≡◌, ◌-◌, ◌<◌, ◌^◌, IfOk, reverse};
+ghost use Rattle.std.specs.Prelude.{◌≡◌, ◌-◌, ◌<◌, ◌≤◌, ◌^◌, IfOk, length, reverse};
 ghost use Rattle.rq_page.specs.Cells.{cell_in};
 ghost use Rattle.rq_page.specs.Sizes.{IsCellAddress};
 ghost use Rattle.rq_level.specs.Writes.{writes_of};
-ghost use Rattle.rq_page.specs.Slots.{IsCellOf};
 ghost use Rattle.rq_views.specs.Items.{layout_of};
 ghost use Rattle.rq_views.specs.Plans.{append_writes, put_back_writes, unlink_head_writes};
-ghost use Rattle.rq_chain.specs.CellEntries.{IsGroupOf, IsCellEntryAt, IsNeighbour, cell_appended, cell_beside};
+ghost use Rattle.rq_chain.specs.CellEntries.{IsGroupOf, IsCellEntryAt, IsNeighbour, cell_beside};
 
 use rq_chain::{CellEntry, DirectoryEntry, append, put_back, unlink_head};
 use rq_level::SlotWrite;
 use rq_model::message::Body;
 use rq_model::refusal::NoMemory;
 use rq_page::addr::Addr;
-use rq_page::cell::Cell;
 use rq_page::layout::Layout;
 use std::alloc::Global;
 
@@ -25,8 +23,9 @@ pub fn sends(
     tail: &Option<CellEntry>,
     tail_again: &Option<CellEntry>,
     free: Addr,
-    new: &Cell,
-    new_again: &Cell,
+    tag: u64,
+    body: &[u8],
+    body_again: &[u8],
 ) -> (
     Result<Vec<SlotWrite>, NoMemory>,
     Result<Vec<SlotWrite>, NoMemory>,
@@ -36,16 +35,15 @@ pub fn sends(
     requires tail { IsNeighbour layout.now group.now.directory.tail tail.now }
     requires again { IsNeighbour layout.now group.now.directory.tail tail_again.now }
     requires same { cell_beside tail_again.now ≡ cell_beside tail.now }
-    requires new { new.now ≡ cell_appended group.now new.now.tag new.now.body }
-    requires fits { IsCellOf layout.now new.now }
-    requires cell { new_again.now ≡ new.now }
+    requires short { length body.now ≤ 216 }
+    requires body { body_again.now ≡ body.now }
     requires free { IsCellAddress layout.now free }
     ensures { IfOk result.0 (λ a. IfOk result.1
         (λ b. reverse (writes_of layout.now a.items) ≡ reverse (writes_of layout.now b.items))) }
 {
     (
-        sent(alloc, layout, group, tail, free, new),
-        sent(alloc, layout, group, tail_again, free, new_again),
+        sent(alloc, layout, group, tail, free, tag, body),
+        sent(alloc, layout, group, tail_again, free, tag, body_again),
     )
 }
 
@@ -114,19 +112,19 @@ fn sent(
     group: &DirectoryEntry,
     tail: &Option<CellEntry>,
     free: Addr,
-    new: &Cell,
+    tag: u64,
+    body: &[u8],
 ) -> Result<Vec<SlotWrite>, NoMemory>
     requires room { group.now.directory.sent < 2 ^ 64 - 1 }
-    requires new { new.now ≡ cell_appended group.now new.now.tag new.now.body }
-    requires fits { IsCellOf layout.now new.now }
+    requires short { length body.now ≤ 216 }
     requires group { IsGroupOf layout.now group.now }
     requires tail { IsNeighbour layout.now group.now.directory.tail tail.now }
     requires free { IsCellAddress layout.now free }
     ensures { IfOk result (λ all. reverse (writes_of layout.now all.items) ≡ append_writes (layout_of layout.now)
-        group.now.sender group.now.directory free new.now.tag new.now.body (cell_beside tail.now)) }
+        group.now.sender group.now.directory free tag body.now (cell_beside tail.now)) }
 {
     let mut writes = Vec::new(alloc);
-    match append(&mut writes, layout, group, tail, free, new) {
+    match append(&mut writes, layout, group, tail, free, tag, body) {
         Ok(()) => Ok(writes),
         Err(wanting) => Err(wanting),
     }

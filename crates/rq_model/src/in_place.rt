@@ -41,6 +41,7 @@ impl<const N: usize> InPlace<N> {
     }
 
     /// A copy of the one's bytes and, behind them, the other's.
+    #[inline(always)]
     pub fn joined(front: &[u8], rest: &[u8]) -> Self
         requires { length front.now + length rest.now ≤ N }
         ensures { result ≡ front.now ++ rest.now }

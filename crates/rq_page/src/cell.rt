@@ -1,5 +1,5 @@
 //! Cells, each of which holds one message of a chain, and how they stand in slots.
-ghost use Rattle.std.specs.Prelude.{◌≡◌, ◌≢◌, IfNone, IfSome, Some};
+ghost use Rattle.std.specs.Prelude.{◌≡◌, ◌≢◌, ◌≤◌, IfNone, IfSome, Some, length};
 ghost use Rattle.rq_page.specs.Cells.{cell_front, cell_bytes, cell_slot_bytes, cell_slot_in, IsCellSlot};
 ghost use Rattle.rq_page.specs.declared.cell.CellSlot.{CellSlot};
 
@@ -32,31 +32,70 @@ pub struct Cell {
 }
 
 impl Cell {
-    // The forty bytes before the body.
-    #[tactic(auto, unfolding(crate::specs::Cells::cell_front))]
-    fn front(&self) -> [u8; FRONT_BYTES]
-        ensures { result ≡ cell_front self.now }
-    {
-        let mut out = [0; FRONT_BYTES];
-        out[0] = 1;
-        BigEndian::write_u16(&mut out[2..], self.body.as_slice().len() as u16);
-        BigEndian::write_u32(&mut out[4..], self.sender);
-        BigEndian::write_u64(&mut out[8..], self.sequence);
-        BigEndian::write_u64(&mut out[16..], self.tag);
-        BigEndian::write_u64(&mut out[24..], self.next.number());
-        BigEndian::write_u64(&mut out[32..], self.prev.number());
-        out
-    }
-
     /// The one spelling of a slot that holds it.
     pub fn encode(&self) -> Slot
         ensures { result ≡ cell_bytes self.now }
     {
-        let mut out = [0; SLOT_BYTES];
-        Fields::place(&mut out, 0, &self.front());
-        Fields::place(&mut out, FRONT_BYTES, self.body.as_slice());
-        out
+        spell_cell(
+            self.sender,
+            self.sequence,
+            self.tag,
+            self.next,
+            self.prev,
+            self.body.as_slice(),
+        )
     }
+}
+
+/// The one spelling of a slot that holds a cell of these.
+#[inline(always)]
+pub fn spell_cell(sender: u32, sequence: u64, tag: u64, next: Addr, prev: Addr, body: &[u8]) -> Slot
+    requires { length body.now ≤ 216 }
+    ensures { result ≡ cell_bytes (record {
+      sender = sender;
+      sequence = sequence;
+      tag = tag;
+      next = next;
+      prev = prev;
+      body = body.now;
+    }) }
+{
+    let mut out = [0; SLOT_BYTES];
+    Fields::place(&mut out, 0, &front(sender, sequence, tag, next, prev, body));
+    Fields::place(&mut out, FRONT_BYTES, body);
+    out
+}
+
+// The forty bytes before the body.
+#[tactic(auto, unfolding(crate::specs::Cells::cell_front))]
+#[inline(always)]
+fn front(
+    sender: u32,
+    sequence: u64,
+    tag: u64,
+    next: Addr,
+    prev: Addr,
+    body: &[u8],
+) -> [u8; FRONT_BYTES]
+    requires { length body.now ≤ 216 }
+    ensures { result ≡ cell_front (record {
+      sender = sender;
+      sequence = sequence;
+      tag = tag;
+      next = next;
+      prev = prev;
+      body = body.now;
+    }) }
+{
+    let mut out = [0; FRONT_BYTES];
+    out[0] = 1;
+    BigEndian::write_u16(&mut out[2..], body.len() as u16);
+    BigEndian::write_u32(&mut out[4..], sender);
+    BigEndian::write_u64(&mut out[8..], sequence);
+    BigEndian::write_u64(&mut out[16..], tag);
+    BigEndian::write_u64(&mut out[24..], next.number());
+    BigEndian::write_u64(&mut out[32..], prev.number());
+    out
 }
 
 /// What a cell's slot holds.

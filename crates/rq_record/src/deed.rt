@@ -4,12 +4,11 @@ ghost use Rattle.rq_model.specs.declared.record.Deed.{Deed};
 ghost use Rattle.rq_model.specs.declared.record.Deed.TheVariants.{Append, Close, Mark, UnlinkHead};
 ghost use Rattle.rq_bytes.specs.Number.{number};
 ghost use Rattle.rq_model.specs.Deeds.{spelled_deed, deed_in, deed_level, mark_in, deed_by};
-ghost use Rattle.rq_record.specs.Deeds.{IsDeed, IsBody};
+ghost use Rattle.rq_record.specs.Deeds.{IsDeed};
 ghost use Rattle.rq_record.specs.Reading.{Gives};
 ghost use Rattle.rq_record.specs.DeedReading.{append_at, unlink_head_at, close_at, mark_at, deed_at, tag_deed_at, deed_of};
 
 use crate::reading::{Stop, take_positive, take_u32, take_u64};
-use crate::writing::shows_bytes_fit;
 use byteorder::{BigEndian, ByteOrder};
 use rq_model::message::Body;
 use rq_model::record::{Deed, DeedBytes};
@@ -159,13 +158,6 @@ pub fn decode_told(level: u8, bytes: &[u8]) -> Option<Deed>
     }
 }
 
-// A body has 216 bytes at most.
-fn shows_body_fits(body: &Body)
-    ensures { IsBody body.now }
-{
-    shows_bytes_fit(body.as_slice());
-}
-
 // What stands before the body.
 
 #[tactic(auto, unfolding(rq_bytes::specs::Number::number))]
@@ -206,27 +198,26 @@ fn close_front(sender: u32) -> [u8; 5]
 
 /// The spelling of the deed of a send. It tells the deed, where the sequence is not 0.
 #[tactic(auto, unfolding(rq_bytes::specs::Number::number))]
-pub fn encode_append(sender: u32, sequence: u64, tag: u64, previous: u64, body: &Body) -> DeedBytes
+#[inline(always)]
+pub fn encode_append(sender: u32, sequence: u64, tag: u64, previous: u64, body: &[u8]) -> DeedBytes
+    requires { length body.now ≤ 216 }
     ensures spelled { result ≡ spelled_deed (Append sender sequence tag previous body.now) }
     ensures told { 1 ≤ sequence → deed_in result ≡ Some (Append sender sequence tag previous body.now) }
     ensures size { (1 ≤ length result) × (length result ≤ 256) }
 {
-    shows_body_fits(body);
-    DeedBytes::joined(
-        &append_front(sender, sequence, tag, previous),
-        body.as_slice(),
-    )
+    DeedBytes::joined(&append_front(sender, sequence, tag, previous), body)
 }
 
 /// The spelling of the deed of a receive. It tells the deed, where the sequence is not 0.
 #[tactic(auto, unfolding(rq_bytes::specs::Number::number))]
-pub fn encode_unlink_head(sender: u32, sequence: u64, tag: u64, body: &Body) -> DeedBytes
+#[inline(always)]
+pub fn encode_unlink_head(sender: u32, sequence: u64, tag: u64, body: &[u8]) -> DeedBytes
+    requires { length body.now ≤ 216 }
     ensures spelled { result ≡ spelled_deed (UnlinkHead sender sequence tag body.now) }
     ensures told { 1 ≤ sequence → deed_in result ≡ Some (UnlinkHead sender sequence tag body.now) }
     ensures size { (1 ≤ length result) × (length result ≤ 256) }
 {
-    shows_body_fits(body);
-    DeedBytes::joined(&unlink_head_front(sender, sequence, tag), body.as_slice())
+    DeedBytes::joined(&unlink_head_front(sender, sequence, tag), body)
 }
 
 #[tactic(auto, unfolding(rq_bytes::specs::Number::number))]
@@ -243,6 +234,7 @@ fn mark_bytes(client: u32, tag: u64, previous: u64) -> [u8; 21]
 
 /// The spelling of the deed of a mark. It tells the deed.
 #[tactic(auto, unfolding(rq_bytes::specs::Number::number))]
+#[inline(always)]
 pub fn encode_mark(client: u32, tag: u64, previous: u64) -> DeedBytes
     ensures spelled { result ≡ spelled_deed (Mark client tag previous) }
     ensures told { mark_in result ≡ Some (Mark client tag previous) }
@@ -253,6 +245,7 @@ pub fn encode_mark(client: u32, tag: u64, previous: u64) -> DeedBytes
 
 /// The spelling of the deed of a close. It tells the deed.
 #[tactic(auto, unfolding(rq_bytes::specs::Number::number))]
+#[inline(always)]
 pub fn encode_close(sender: u32) -> DeedBytes
     ensures spelled { result ≡ spelled_deed (Close sender) }
     ensures told { deed_in result ≡ Some (Close sender) }

@@ -13,7 +13,7 @@ use rq_model::refusal::NoMemory;
 use rq_model::txn::Txn;
 
 // The elements of a slice of bytes are bytes.
-pub fn shows_bytes_fit(bytes: &[u8])
+fn shows_bytes_fit(bytes: &[u8])
     ensures { AreBytes bytes.now }
 {}
 

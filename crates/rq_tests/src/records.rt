@@ -137,7 +137,7 @@ fn end_of(body: &Body) -> Step {
         txn: FIRST,
         operation: 1,
         level: 1,
-        deed: encode_append(0, 1, 7, 0, body),
+        deed: encode_append(0, 1, 7, 0, body.as_slice()),
     };
     Step::Record(record, 64)
 }
