@@ -240,3 +240,31 @@ next_apart_in_word words others from n z apart within one first =
           let b : flag_at others (from + (k - from)) ≡ flag_at others k = ap (flag_at others) place in
           omega (arith, zero, a, b, free),
     )
+
+-- Up to a word each place that is in the one list is in the other.
+module _ (flags others : List ℕ) (from word : ℕ) (none : (k : ℕ) → from ≤ k → k / 64 < word → flag_at others k ≡ 0 → flag_at flags k ≡ 0) where
+  -- so it is where that word has none that is not
+  pub none_there : IsNextApartInWord flags others (word * 64) None
+      → (k : ℕ) → from ≤ k → k / 64 < word + 1 → flag_at others k ≡ 0 → flag_at flags k ≡ 0
+  none_there there k after before free =
+      elim (cases_lt (k / 64) word) [
+        | inl earlier ↦ none k after earlier free
+        | inr here ↦ there k (omega arith) (omega arith) free
+      ]
+
+  -- and up to the next word that has a flag
+  pub none_between : (words : List ℕ) (next : ℕ) → AreFlags words flags → ((w : ℕ) → word ≤ w → w < next → flag_at words w ≡ 0)
+      → (k : ℕ) → from ≤ k → k / 64 < next → flag_at others k ≡ 0 → flag_at flags k ≡ 0
+  none_between words next are empty k after before free =
+      elim (cases_lt (k / 64) word) [
+        | inl earlier ↦ none k after earlier free
+        | inr here ↦ flag_at-zero flags (k / 64) k (none_of words flags (k / 64) are (empty (k / 64) here before)) refl
+      ]
+
+  -- or anywhere, where there is no word more
+  pub none_past : length flags ≤ word → IsNextApart flags others from None
+  none_past past k after free =
+      elim (cases_lt (k / 64) word) [
+        | inl earlier ↦ none k after earlier free
+        | inr beyond ↦ flag_at-past flags k (omega arith)
+      ]

@@ -110,12 +110,21 @@ impl Index {
     pub fn next_apart(&self, others: &Index, from: usize) -> Option<usize>
         ensures { IsNextApart self.now others.now from result }
     {
-        let mut from = from;
-        while let Some(place) = self.next(from) {
-            if let Some(apart) = next_apart_in_word(&self.flags, &others.flags, place) {
-                return Some(apart);
+        if let Some(place) = next_apart_in_word(&self.flags, &others.flags, from) {
+            return Some(place);
+        }
+        let mut word = from / 64 + 1;
+        while word < self.flags.len() {
+            if let Some(place) = next_apart_in_word(&self.flags, &others.flags, word * 64) {
+                return Some(place);
             }
-            from = (place / 64 + 1) * 64;
+            if self.flags[word] != 0 {
+                word += 1;
+            } else if let Some(next) = next_flag(&self.words, word + 1) {
+                word = next;
+            } else {
+                return None;
+            }
         }
         None
     }
