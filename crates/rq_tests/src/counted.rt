@@ -1,18 +1,12 @@
 //! Levels that count what they are asked.
-ghost use Rattle.std.specs.Prelude.{◌≡◌, IfOk, None};
-ghost use Rattle.rq_level.specs.LevelState.{HasRoom};
-ghost use Rattle.rq_levels.specs.Words.{kept_of, number_of};
+ghost use Rattle.std.specs.Prelude.{◌≡◌, IfOk};
 
-use rq_chain::ChainLevel;
 use rq_level::{Level, Op, Outcome, PageSet, Plan, Slots, Want, redo_page};
-use rq_levels::StoreLevel;
 use rq_model::record::{Record, Slot};
 use rq_model::refusal::{Damage, Refusal};
 use rq_model::txn::Lsn;
 use rq_page::addr::Addr;
 use rq_page::page::Page;
-use rq_pageops::PageLevel;
-use rq_tags::TagLevel;
 use std::alloc::{AllocError, Global};
 use std::sync::Arc;
 use std::sync::atomic::{AtomicU64, Ordering};
@@ -72,72 +66,35 @@ impl Asks {
     }
 }
 
-/// A level of a store, and what it was asked.
-pub struct Counted {
-    pub level: StoreLevel,
+/// A level, and what it was asked.
+pub struct Counted<L: Level> {
+    pub level: L,
     pub asks: Arc<Asks, Global>,
 }
 
-impl Counted {
-    /// The level of single slots.
-    pub fn slots(asks: &Arc<Asks, Global>) -> Result<Counted, AllocError>
-        ensures number { IfOk result (λ c. number_of c.level ≡ 0) }
-        ensures sizes { IfOk result (λ c. (kept_of c.level).sizes ≡ None) }
+impl<L: Level> Counted<L> {
+    /// The level, which was asked nothing here.
+    pub fn new(level: L, asks: &Arc<Asks, Global>) -> Result<Counted<L>, AllocError>
+        ensures { IfOk result (λ c. c.level ≡ level) }
     {
         match Arc::try_clone(asks) {
-            Ok(asks) => Ok(Counted {
-                level: StoreLevel::Slots(PageLevel),
-                asks,
-            }),
-            Err(_) => Err(AllocError),
-        }
-    }
-
-    /// The level of tags.
-    pub fn tags(asks: &Arc<Asks, Global>) -> Result<Counted, AllocError>
-        ensures number { IfOk result (λ c. number_of c.level ≡ 2) }
-        ensures sizes { IfOk result (λ c. (kept_of c.level).sizes ≡ None) }
-    {
-        match Arc::try_clone(asks) {
-            Ok(asks) => Ok(Counted {
-                level: StoreLevel::Tags(TagLevel::new()),
-                asks,
-            }),
-            Err(_) => Err(AllocError),
-        }
-    }
-
-    /// The level of chains.
-    pub fn chains(alloc: Global, asks: &Arc<Asks, Global>) -> Result<Counted, AllocError>
-        ensures number { IfOk result (λ c. number_of c.level ≡ 1) }
-        ensures room { IfOk result (λ c. HasRoom (kept_of c.level)) }
-    {
-        let Ok(level) = ChainLevel::new(alloc) else {
-            return Err(AllocError);
-        };
-        match Arc::try_clone(asks) {
-            Ok(asks) => Ok(Counted {
-                level: StoreLevel::Chains(level),
-                asks,
-            }),
+            Ok(asks) => Ok(Counted { level, asks }),
             Err(_) => Err(AllocError),
         }
     }
 }
 
-impl Drop for Counted {
+impl<L: Level> Drop for Counted<L> {
     fn drop(self) {
         let Self { level: _, asks } = self;
         asks.drops.fetch_add(1, Ordering::SeqCst);
     }
 }
 
-impl Level for Counted {
-    ghost use Rattle.rq_levels.specs.Words.{kept_of, number_of};
+impl<L: Level> Level for Counted<L> {
+    ghost level = { λ c. L.level c.level };
 
-    ghost level = { λ c. number_of c.level };
-
-    ghost kept = { λ c. kept_of c.level };
+    ghost kept = { λ c. L.kept c.level };
 
     fn number(&self) -> u8 {
         self.level.number()

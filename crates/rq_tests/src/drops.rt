@@ -3,10 +3,13 @@ ghost use Rattle.std.specs.Prelude.{◌≡◌, None};
 ghost use Rattle.rq_level.specs.LevelState.{HasRoom};
 
 use crate::counted::{Asks, Counted};
+use crate::own_level::ClientCounter;
+use rq_chain::ChainLevel;
 use rq_disk::{MemLog, MemPages, Switch};
 use rq_engine::engine::Engine;
 use rq_level::Level;
 use rq_page::layout::Layout;
+use rq_pageops::PageLevel;
 use rq_planner::StoreLevels;
 use rq_pool::frame_count::FrameCount;
 use rq_restart::format::format;
@@ -27,9 +30,12 @@ enum Dropped {
 // Opens a store with boxed levels that count in one place, and gives it back.
 fn count_drops(alloc: Global, is_formatted: bool) -> Result<Dropped, AllocError> {
     let asks = Arc::new(alloc, Asks::new())?;
-    let slots: Box<dyn Level + Send> = Box::new(alloc, Counted::slots(&asks)?)?;
-    let chains: Box<dyn Level + Send> = Box::new(alloc, Counted::chains(alloc, &asks)?)?;
-    let tags: Box<dyn Level + Send> = Box::new(alloc, Counted::tags(&asks)?)?;
+    let slots: Box<dyn Level + Send> = Box::new(alloc, Counted::new(PageLevel, &asks)?)?;
+    let Ok(chains) = ChainLevel::new(alloc) else {
+        return Err(AllocError);
+    };
+    let chains: Box<dyn Level + Send> = Box::new(alloc, Counted::new(chains, &asks)?)?;
+    let tags: Box<dyn Level + Send> = Box::new(alloc, Counted::new(ClientCounter::new(), &asks)?)?;
     open_and_close(alloc, is_formatted, slots, chains, tags, &asks)
 }
 

@@ -1,14 +1,20 @@
-//! What each level of a store is asked, and one behind them to which the table of levels gives no meaning.
+//! What each level of a store is asked, and one behind them to which the table of levels gives no meaning. The level of tags is the
+//! tests' own.
 ghost use Rattle.std.specs.Prelude.{◌≡◌, None};
 ghost use Rattle.rq_level.specs.LevelState.{HasRoom};
 
 use crate::counted::{Asks, Bystander, Counted, Counts};
-use rq_disk::{MemLog, MemPages, PageChoice, Switch};
+use crate::own_level::ClientCounter;
+use rq_bytes::equal::are_equal;
+use rq_chain::ChainLevel;
+use rq_disk::{MemLog, MemPages, PAGE, PageChoice, PageDevice, Switch};
 use rq_engine::engine::Engine;
-use rq_engine::event::{Event, Outcome, Progress, Reply};
+use rq_engine::event::{Event, Outcome, Progress, Reply, Written};
 use rq_level::Level;
+use rq_levels::levels_of_store;
 use rq_model::txn::{Sub, Txn};
 use rq_page::layout::Layout;
+use rq_pageops::PageLevel;
 use rq_planner::StoreLevels;
 use rq_pool::frame_count::FrameCount;
 use rq_restart::format::format;
@@ -32,6 +38,7 @@ enum Act {
     Undo(u64),
     EndAbort(u64),
     Force,
+    Write(u32),
     LastTag(u32),
     ClientTag(u32),
 }
@@ -55,11 +62,15 @@ const NOTHING_LEFT: u64 = 2004;
 
 const ABORTED: u64 = 2005;
 
+const WRITTEN: u64 = 2006;
+
+const UNCHANGED: u64 = 2007;
+
 const OTHER: u64 = u64::MAX;
 
 // A send and a mark are committed. One mark and one send are taken back by aborts, one mark is lost with its transaction, and one
-// has no end.
-const BEFORE: [Row; 43] = [
+// has no end. Then the pages are written, of senders, of cells and of clients.
+const BEFORE: [Row; 46] = [
     (Act::Begin, 1),
     (Act::Send(1), 1),
     (Act::Step(1, 1), 2),
@@ -103,6 +114,9 @@ const BEFORE: [Row; 43] = [
     (Act::Mark(5, 1, 73), 1),
     (Act::Step(5, 1), 24),
     (Act::Force, 24),
+    (Act::Write(1), WRITTEN),
+    (Act::Write(2), WRITTEN),
+    (Act::Write(3), WRITTEN),
 ];
 
 // What is left of them: what was committed.
@@ -110,6 +124,16 @@ const BEHIND: [Row; 3] = [
     (Act::LastTag(0), 107),
     (Act::ClientTag(0), 170),
     (Act::ClientTag(1), 0),
+];
+
+// Over pages as they were written last the restart takes marks back, and else makes nothing again.
+const BEHIND_WRITTEN: [Row; 6] = [
+    (Act::LastTag(0), 107),
+    (Act::ClientTag(0), 170),
+    (Act::ClientTag(1), 0),
+    (Act::Write(1), UNCHANGED),
+    (Act::Write(2), UNCHANGED),
+    (Act::Write(3), WRITTEN),
 ];
 
 // What each level was asked.
@@ -166,6 +190,7 @@ fn event_of(alloc: Global, incarnation: u64, act: Act) -> Event {
         Act::Undo(count) => Event::UndoNext(of(count)),
         Act::EndAbort(count) => Event::EndAbort(of(count)),
         Act::Force => Event::Force,
+        Act::Write(page) => Event::WritePage(page),
         Act::LastTag(sender) => Event::LastTag(sender),
         Act::ClientTag(client) => Event::ClientTag(client),
     }
@@ -185,6 +210,8 @@ fn number_of(reply: &Reply) -> u64 {
         Reply::NothingLeft => NOTHING_LEFT,
         Reply::Aborted => ABORTED,
         Reply::Forced(lsn) => *lsn,
+        Reply::Written(Written::Done) => WRITTEN,
+        Reply::Written(Written::Nothing) => UNCHANGED,
         Reply::LastTag(last) => with_tag(last.sent, last.tag),
         Reply::ClientTag(last) => with_tag(last.count, last.tag),
         Reply::Refused(refusal) => REFUSED.saturating_add(u64::from(refusal.number())),
@@ -305,11 +332,56 @@ fn in_boxes(
     log: MemLog,
     rows: &[Row],
 ) -> Result<Result<Left, &'static str>, AllocError> {
-    let slots: Box<dyn Level + Send> = Box::new(alloc, Counted::slots(&asked.slots)?)?;
-    let chains: Box<dyn Level + Send> = Box::new(alloc, Counted::chains(alloc, &asked.chains)?)?;
-    let tags: Box<dyn Level + Send> = Box::new(alloc, Counted::tags(&asked.tags)?)?;
+    let slots: Box<dyn Level + Send> = Box::new(alloc, Counted::new(PageLevel, &asked.slots)?)?;
+    let Ok(chains) = ChainLevel::new(alloc) else {
+        return Err(AllocError);
+    };
+    let chains: Box<dyn Level + Send> = Box::new(alloc, Counted::new(chains, &asked.chains)?)?;
+    let tags: Box<dyn Level + Send> = Box::new(
+        alloc,
+        Counted::new(ClientCounter::new(), &asked.tags)?,
+    )?;
     let bystander: Box<dyn Level + Send> = Box::new(alloc, Bystander::new(&asked.bystander)?)?;
     run_four(alloc, pages, log, slots, chains, tags, bystander, rows)
+}
+
+// The same with the levels that `rqm` has, in an enum.
+fn run_three(
+    alloc: Global,
+    pages: MemPages,
+    log: MemLog,
+    rows: &[Row],
+) -> Result<Left, &'static str> {
+    match levels_of_store(alloc) {
+        Ok(levels) => run_with(alloc, pages, log, levels, rows),
+        Err(_) => Err("memory"),
+    }
+}
+
+// What a crash leaves of the devices.
+fn crashed(left: Left, choice: PageChoice) -> (MemPages, MemLog) {
+    let Left { pages, log, .. } = left;
+    (pages.crash(choice), log.crash(0, 0))
+}
+
+// Whether both were answered as they should, and left the same devices.
+fn are_alike(first: &mut Left, second: &mut Left) -> bool {
+    if !first.is_answered || !second.is_answered || first.log.bytes() != second.log.bytes() {
+        return false;
+    }
+    let mut one = [0; PAGE];
+    let mut other = [0; PAGE];
+    for page in 0..4 {
+        if first.pages.read(page, &mut one).is_err()
+            || second.pages.read(page, &mut other).is_err()
+        {
+            return false;
+        }
+        if !are_equal(&one, &other) {
+            return false;
+        }
+    }
+    true
 }
 
 // The devices of a store of one directory page, one cell page and one tag page, formatted.
@@ -378,10 +450,9 @@ fn each_level_is_asked_what_is_its_own(rt: HostRuntime) -> Result<(), Fail> {
     assert!(rt; first.chains.counts() == reading(counts(2, 1, 0, 61, 2), 0, true));
     assert!(rt; first.tags.counts() == reading(counts(4, 1, 0, 61, 3), 0, true));
     assert!(rt; first.bystander.counts() == counts(0, 0, 0, 61, 0));
-    let Left { pages, log, .. } = left;
+    let (pages, log) = crashed(left, PageChoice::Synced);
     let second = all_asks(rt.alloc()).map_err(|_| "memory")?;
-    let crashed = (pages.crash(PageChoice::Synced), log.crash(0, 0));
-    let left = run(rt.alloc(), crashed.0, crashed.1, &second, &BEHIND)?;
+    let left = run(rt.alloc(), pages, log, &second, &BEHIND)?;
     assert!(rt; left.is_answered);
     // Thirteen writes are made again, one is undone, and one takes back the lost mark, behind what the opening tells. Two ends of
     // sends and three of marks are read, and the lost mark's is again where it is taken back.
@@ -389,5 +460,25 @@ fn each_level_is_asked_what_is_its_own(rt: HostRuntime) -> Result<(), Fail> {
     assert!(rt; second.chains.counts() == reading(counts(0, 0, 0, 47, 0), 2, false));
     assert!(rt; second.tags.counts() == reading(counts(0, 1, 0, 47, 0), 4, true));
     assert!(rt; second.bystander.counts() == counts(0, 0, 0, 47, 0));
+    Ok(())
+}
+
+#[test]
+fn levels_go_on_where_others_left(rt: HostRuntime) -> Result<(), Fail> {
+    let asked = all_asks(rt.alloc()).map_err(|_| "memory")?;
+    let (pages, log) = store(rt.alloc())?;
+    let mut first = run(rt.alloc(), pages, log, &asked, &BEFORE)?;
+    let (pages, log) = store(rt.alloc())?;
+    let mut second = run_three(rt.alloc(), pages, log, &BEFORE)?;
+    assert!(rt; are_alike(&mut first, &mut second));
+    // Each is opened by the levels that did not write it.
+    let (pages, log) = crashed(first, PageChoice::Newest);
+    let mut first = run_three(rt.alloc(), pages, log, &BEHIND_WRITTEN)?;
+    let (pages, log) = crashed(second, PageChoice::Newest);
+    let mut second = run(rt.alloc(), pages, log, &asked, &BEHIND_WRITTEN)?;
+    assert!(rt; are_alike(&mut first, &mut second));
+    // The tests' own level planned four marks, and took back one in an abort and one that was lost.
+    let own = asked.tags.counts();
+    assert!(rt; own.plans == 4 && own.undos == 2 && own.drops == 2);
     Ok(())
 }

@@ -20,6 +20,9 @@ mod levels;
 #[cfg(test)]
 mod mark;
 #[cfg(test)]
+#[tactic(auto, unfolding(rq_level::specs::Meaning::meaning_of))]
+mod own_level;
+#[cfg(test)]
 mod records;
 #[cfg(test)]
 mod reference;
