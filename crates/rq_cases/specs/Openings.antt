@@ -138,9 +138,13 @@ pub record FewFramesAreJudged : Type 0 where
 module _ {P L : Type 0} (p : page_device.Ghosts P) (l : log_device.Ghosts L) where
   -- restarts whatever the devices are
   pub record OpeningsAreJudged : Type 0 where
-    -- the LSN of a page is beyond the log that was opened over it
+    -- the LSN of a page is that of the Restart record, or beyond
     pub page_beyond_the_log : (pages : P) (log : L) (count : ℕ) (s : OpenStore P L) (report : Report) (page : ℕ) → 1 ≤ page
-        → page < page_count s.state.sizes → length s.state.records < lsn_of (image_at s.state.images page)
+        → page < page_count s.state.sizes → length s.state.records ≤ lsn_of (image_at s.state.images page)
+        → 1 ≤ length s.state.records → Opens p l pages log count s report → ⊥
+    -- a page of an honest device is older than it was read
+    pub page_older_than_read : (pages : P) (log : L) (count : ℕ) (s : OpenStore P L) (report : Report) (page : ℕ) → p.honest s.pages
+        → page < page_count s.state.sizes → lsn_of (image_at s.state.images page) < lsn_of (p.seen pages page)
         → Opens p l pages log count s report → ⊥
 
 -- a log of these records, all of them forced, over a device

@@ -32,19 +32,10 @@ module _ (k : ℕ) (log : List Record) where
   drop_one (Base many i) low e = absurd (omega (arith, low))
   drop_one _ low e = e (omega (arith, low))
 
-  gone_one : (r : Record) → suc k + gone (r ∷ log) < length (r ∷ log) → (k + gone log < length log → gone (drop k log) ≡ gone log) → gone (drop (suc k) (r ∷ log)) ≡ gone (r ∷ log)
-  gone_one (Base many i) low e = absurd (omega (arith, low))
-  gone_one _ low e = e (omega (arith, low))
-
 pub drop_standing : (k : ℕ) (log : List Record) → k + gone log < length log → standing (drop k log) ≡ drop k (standing log)
 drop_standing zero log low = refl
 drop_standing (suc k) [] low = absurd (omega (arith, low))
 drop_standing (suc k) (r ∷ log) low = drop_one k log r low (drop_standing k log)
-
-pub drop_gone : (k : ℕ) (log : List Record) → k + gone log < length log → gone (drop k log) ≡ gone log
-drop_gone zero log low = refl
-drop_gone (suc k) [] low = absurd (omega (arith, low))
-drop_gone (suc k) (r ∷ log) low = gone_one k log r low (drop_gone k log)
 
 again_one : (r : Record) (log : List Record) → standing (standing log) ≡ standing log → standing (standing (r ∷ log)) ≡ standing (r ∷ log)
 again_one (Base many i) log e = refl
@@ -248,7 +239,3 @@ earlier_plain _ log plain = refl
 pub added_earlier : (more log : List Record) → ArePlain more → earlier (more ++ log) ≡ earlier log
 added_earlier [] log plain = refl
 added_earlier (r ∷ more) log plain = earlier_plain r (more ++ log) (added_plain r plain.0) ∙ added_earlier more log plain.1
-
-pub added_marked : (more log : List Record) → ArePlain more → marked (more ++ log) ≡ more ++ marked log
-added_marked [] log plain = refl
-added_marked (r ∷ more) log plain = next_same r (more ++ log) (added_plain r plain.0) ∙ ap (λ l. r ∷ l) (added_marked more log plain.1)

@@ -33,7 +33,7 @@ use Rattle.rq_analysis.proofs.Noting.{noted_active}
 use Rattle.rq_restart.specs.declared.analysis.Analysis.{Analysis}
 use Rattle.rq_restart.specs.Found.{IsAnalysisOf}
 use Rattle.rq_analysis.specs.declared.dues.PendingUndo.{PendingUndo}
-use Rattle.rq_restart.specs.Aborting.{AbortStops, AbortingStops, AbortsBehind, AbortsFrom, AbortsOn, ArePlanned, AreRounds, HasAborted, HasGoneOn, IsAborting, IsAbortingFrom, IsBadStep, IsNextRound, IsMaking, IsShown, IsOnItsWay, IsPlannedOn, IsTakenNext, OfStore, RepeatedSince, Round, after_round, after_rounds, with_writes}
+use Rattle.rq_restart.specs.Aborting.{AbortStops, AbortsBehind, AbortsFrom, AbortsOn, ArePlanned, AreRounds, HasGoneOn, IsAborting, IsBadStep, IsNextRound, IsMaking, IsOnItsWay, IsPlannedOn, IsTakenNext, OfStore, RepeatedSince, Round, after_round, after_rounds, with_writes}
 use Rattle.rq_restart.specs.Aborting.Round.{Ends, TakesBack}
 use Rattle.rq_restart.specs.Aborting.IsAborting.{Between, Within}
 use Rattle.rq_restart.specs.Aborting.IsBadStep.{BadDue, BadRecord}
@@ -266,18 +266,6 @@ alike_gone z log now old new before after same images f = record {
 -- nothing was ended or taken back
 pub nothing_gone : {P : Type 0} (z : Sizes) (log : List Record) (old : Pooled P) (before : List Record → State → Type 0) → HasGoneOn z (AbortsFrom z log old log) log log old old before before
 nothing_gone z log old before = record { aborting = aborts_none z (RepeatedSince z log (paged old)) log; repeated = λ first h. h; counted = λ h. h; shown = λ x base k same b. b }
-
--- in whole rounds
-module _ {P : Type 0} (z : Sizes) (log mid : List Record) (old now : Pooled P) (g : HasAborted z log old mid now) where
-  pub aborted_join : (last : List Record) (new : Pooled P) → HasAborted z mid now last new → HasAborted z log old last new
-  aborted_join last new h = gone_join z (AbortsFrom z log old mid) log mid old now (IsShown log old) (IsShown mid now) g (AbortsFrom z mid now last) (AbortsFrom z log old last) last new (IsShown last new) (aborts_join z log mid (paged old) (paged now) g.repeated last) h
-
-  pub aborted_stops : (e : Refusal) → AbortingStops z mid now e → AbortingStops z log old e
-  aborted_stops e h = stops_join z (AbortsFrom z log old mid) log mid old now (IsShown log old) (IsShown mid now) g (IsAbortingFrom z mid now) (IsAbortingFrom z log old) (λ a l. aborting_join z log mid (paged old) (paged now) g.repeated l a) e h
-
--- it holds of the stores of which something else is so, where that leads to it
-pub stops_before : {P : Type 0} (z : Sizes) (one other : List Record → Type 0) (log : List Record) (old new : Pooled P) (before here : List Record → State → Type 0) (e : Refusal) → ((l : List Record) → one l → other l) → new.images ≡ old.images → OfStore z before here → AbortStops z one log new here e → AbortStops z other log old before e
-stops_before z one other log old new before here e j images f s = stops_join z (Unit {0}) log log old new before here (alike_gone z log log old new before here refl images f) one other (λ u. j) e s
 
 -- of a whole log those that are noted are lost
 pub active_lost : (z : Sizes) (log : List Record) → IsWhole z log → (open_work_of log).active ≡ lost log

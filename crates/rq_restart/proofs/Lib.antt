@@ -36,3 +36,4 @@ pub mod Placing
 pub mod ReadAgain
 pub mod HandedOn
 pub mod RoundsBehind
+pub mod Carrying

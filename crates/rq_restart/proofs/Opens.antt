@@ -217,14 +217,14 @@ module _ {P L : Type 0} (p : page_device.Ghosts P) (l : log_device.Ghosts L) (pa
     checked : HaveToldTruly p l loaded now new.device → WasChecked p l pages log now.sizes (paged now) new.records now.device new.device
     checked = was_checked p l pages log loaded pages_sound seen now new cells waiting sent planner report o
 
+    as_read : p.honest now.device → (q : ℕ) → q < page_count now.sizes → lsn_of (image_in loaded.images q) ≡ lsn_of (p.seen pages q)
+    as_read h q high = ap lsn_of (seen (o.continues.pages_honest h) q (subst (λ (z : Sizes). q < page_count z) o.continues.sizes high))
+
     -- none counted as changed as it was read
     newer : p.honest now.device → (q : ℕ) → q < page_count now.sizes → is_changed now.changed q ≡ true → lsn_of (p.seen pages q) < lsn_of (image_in now.images q)
     newer h q high e = elim (o.continues.marked.newer q e) [
       | inl was ↦ absurd (let bad : true ≡ false = sym was ∙ ap (λ (c : List Bool). is_changed c q) unchanged ∙ none_marked (page_count loaded.sizes) q in cc bad)
-      | inr since ↦
-          let as_read : image_in loaded.images q ≡ p.seen pages q = seen (o.continues.pages_honest h) q (subst (λ (z : Sizes). q < page_count z) o.continues.sizes high) in
-          let same = ap lsn_of as_read in
-          omega (arith, since, same)
+      | inr since ↦ (let same = as_read h q high in omega (arith, since, same))
     ]
 
     leaves : HaveBeenHonest p l now.device new.device → LeavesPages p l pages log now.device now.sizes new.records
@@ -236,6 +236,7 @@ module _ {P L : Type 0} (p : page_device.Ghosts P) (l : log_device.Ghosts L) (pa
         record {
           sizes = λ h. subst (λ z. IsSuperblock z (p.seen pages 0)) (sym o.continues.sizes) (told_on loaded.sizes (p.seen pages) loaded.images pages_sound (seen (o.continues.pages_honest h)));
           checked = λ told. checked (told_truly told);
+          later = λ h q high. (let same = as_read h q high in let later = o.continues.marked.later q in omega (arith, same, later));
           marked = newer;
           within = o.within;
           told = λ h. (o.read.records, record { honest = h; are_spelled = o.was_read.are_spelled; reads = o.was_read.reads (o.honest h) });

@@ -56,6 +56,7 @@ use Rattle.rq_restart.proofs.Aborts.{aborting_none, aborting_weaker, bad_weaker,
 use Rattle.rq_restart.proofs.Lefts.{left_undoing}
 use Rattle.rq_restart.proofs.Pasts.{undoing_added, undoing_on, undone_on, work_on}
 use Rattle.rq_restart.proofs.Repeated.{AreUpTo, all_up_to}
+use Rattle.rq_restart.proofs.RoundsBehind.{IsAbortedTo}
 use Rattle.rq_restart.proofs.Standing.{pages_stand}
 use Rattle.rq_restart.proofs.Showing.{between_holds}
 
@@ -277,11 +278,9 @@ pub record IsUndoneRead {P L : Type 0} (p : page_device.Ghosts P) (l : log_devic
 
 -- and then transactions were, in whole rounds
 pub record IsAbortedBehind {P L : Type 0} (p : page_device.Ghosts P) (l : log_device.Ghosts L) (two three : Pooled P) (mid now : Logged L) : Type 0 where
-  pub goes : GoesOn {P = P} {L = L} {X = Unit {0}} p l two mid.device mid.records (Ok tt) three now.device now.records
-  pub gone_on : HaveToldTruly p l two three now.device → HasAborted two.sizes mid.records two now.records three
+  pub to : IsAbortedTo p l two mid three now
   pub ended : IsEnded now.records
   pub none : IsEnded mid.records → (now ≡ mid) × (three ≡ two)
-  pub way : HaveBeenHonest p l three.device now.device → (f : Found P L) → StandsOver p l f (IsShown mid.records two) two mid → StandsOver p l f (IsShown now.records three) three now
 
 module _ {P L : Type 0} {p : page_device.Ghosts P} {l : log_device.Ghosts L} (only_now : (d : L) (c : List ℕ) → l.left_since d (l.moment d) c → l.may_leave d c) {old one two : Pooled P} {log mid : Logged L} (k : IsUndoneRead p l old one two log mid) where
   pub went : GoesOn {X = Unit {0}} p l old log.device log.records (Ok tt) two mid.device mid.records
@@ -312,17 +311,17 @@ module _ {P L : Type 0} {p : page_device.Ghosts P} {l : log_device.Ghosts L} (on
 
   module _ {three : Pooled P} {now : Logged L} (a : IsAbortedBehind p l two three mid now) where
     pub rounds_went : GoesOn {X = Unit {0}} p l old log.device log.records (Ok tt) three now.device now.records
-    rounds_went = all_went three now (Ok tt) a.goes
+    rounds_went = all_went three now (Ok tt) a.to.carried.goes
 
     pub rolled_back : HaveToldTruly p l old three now.device → IsRolledBackSince old.sizes log.records now.records (paged old) (paged three)
     rolled_back told =
-        let before = told_two three now (Ok tt) a.goes told in
-        rolled_back_since old.sizes log.records mid.records now.records old two three went.sizes (k.undone before.1) (pool_then before) (repeated_then before).repeated (a.gone_on (told_three three now (Ok tt) a.goes told)) a.ended (λ x. ap (λ (y : Logged _). y.records) (a.none x).0)
+        let before = told_two three now (Ok tt) a.to.carried.goes told in
+        rolled_back_since old.sizes log.records mid.records now.records old two three went.sizes (k.undone before.1) (pool_then before) (repeated_then before).repeated (a.to.carried.gone (told_three three now (Ok tt) a.to.carried.goes told)) a.ended (λ x. ap (λ (y : Logged _). y.records) (a.none x).0)
 
     pub rolled_back_counted : HaveToldTruly p l old three now.device → ArePagesCounted old.sizes (length log.records) (paged old) → ArePagesCounted old.sizes (length now.records) (paged three)
     rolled_back_counted told counted =
         subst (λ (z : Sizes). ArePagesCounted z (length now.records) (paged three)) went.sizes
-        ((a.gone_on (told_three three now (Ok tt) a.goes told)).counted (subst (λ (z : Sizes). ArePagesCounted z (length mid.records) (paged two)) (sym went.sizes) ((repeated_then (told_two three now (Ok tt) a.goes told)).counted counted)))
+        ((a.to.carried.gone (told_three three now (Ok tt) a.to.carried.goes told)).counted (subst (λ (z : Sizes). ArePagesCounted z (length mid.records) (paged two)) (sym went.sizes) ((repeated_then (told_two three now (Ok tt) a.to.carried.goes told)).counted counted)))
 
     -- and pages are read once more
     module _ (four : Pooled P) (read : MayHaveRead p three four) where
@@ -350,10 +349,10 @@ module _ {P L : Type 0} {p : page_device.Ghosts P} {l : log_device.Ghosts L} (on
     module _ {three : Pooled P} {now : Logged L} (a : IsAbortedBehind p l two three mid now) (four : Pooled P) (read : MayHaveRead p three four) where
       stands_three : HaveBeenHonest p l three.device now.device → Stands p l f three now
       stands_three h =
-          let before : HaveBeenHonest p l two.device mid.device = (a.goes.pages_honest h.0, a.goes.log_honest h.1) in
+          let before : HaveBeenHonest p l two.device mid.device = (a.to.carried.goes.pages_honest h.0, a.to.carried.goes.log_honest h.1) in
           ⊎_elim
           (λ ended. subst (λ (y : Logged _). Stands p l f three y) (sym (a.none ended).0) (subst (λ (x : Pooled _). Stands p l f x mid) (sym (a.none ended).1) (stands_two before)))
-          (λ some. (a.way h f (over_two before some)).stands) (ended_or_not mid.records)
+          (λ some. (a.to.carried.way h f (over_two before some)).stands) (ended_or_not mid.records)
 
       pub stands_four : HaveBeenHonest p l four.device now.device → Stands p l f four now
       stands_four h = pages_stand p l pages_now pages_count log_count f three now (stands_three (read.device.honest h.0, h.1)) four (read.kept 0).sizes ((read.kept 0).images h.0) read.device

@@ -50,7 +50,7 @@ use Rattle.rq_analysis.proofs.Planning.{due_may, due_reads}
 use Rattle.rq_analysis.proofs.Recovering.{behind}
 use Rattle.rq_analysis.proofs.Walking.{aborts_go_on}
 use Rattle.rq_restart.specs.declared.analysis.Analysis.{Analysis}
-use Rattle.rq_restart.specs.Aborting.{AbortStops, AbortsFrom, AbortsOn, CannotBeTaken, HasAborted, HasGoneOn, IsAbortingFrom, IsBadStep, IsMaking, IsNotUndone, IsOnItsWay, IsPlannedOn, IsShown, IsShownWithin, IsTakenNext, OfStore, PlanStops, RepeatedSince, with_writes}
+use Rattle.rq_restart.specs.Aborting.{AbortStops, AbortsFrom, CannotBeTaken, HasAborted, IsAbortingFrom, IsBadStep, IsMaking, IsNotUndone, IsOnItsWay, IsPlannedOn, IsShown, IsShownWithin, IsTakenNext, OfStore, PlanStops, RepeatedSince, with_writes}
 use Rattle.rq_restart.specs.Aborting.IsAborting.{Between as BetweenRounds}
 use Rattle.rq_restart.specs.Aborting.IsBadStep.{BadDue}
 use Rattle.rq_restart.specs.Aborting.IsOnItsWay.{Between, Within}
@@ -61,7 +61,7 @@ use Rattle.rq_disk.specs.declared.device.PageDevice as page_device
 use Rattle.rq_restart.specs.Found.{IsAnalysisOf}
 use Rattle.rq_restart.specs.Repeating.{Belongs, IsRecordRedone, Repeats, paged}
 use Rattle.rq_restart.specs.Undoing.{FailsWith, StepStops, failures}
-use Rattle.rq_restart.proofs.Aborts.{aborting_none, aborts_end, active_lost, alike_gone, closing_aborts, gone_join, making_aborts, one_gone, one_stops, planned_here, stops_before, stops_join}
+use Rattle.rq_restart.proofs.Aborts.{aborting_none, aborts_end, active_lost, closing_aborts, making_aborts, one_gone, one_stops, planned_here}
 use Rattle.rq_restart.proofs.Aborts as aborts
 use Rattle.rq_restart.proofs.DueLists.{nobody_left, one_next, own_stay}
 use Rattle.rq_restart.proofs.Planning.{lowest_is, plan_is, shows_can}
@@ -283,14 +283,14 @@ module _ {P : Type 0} (z : Sizes) (log : List Record) (old : Pooled P) (d : Pend
         )
 
 -- its end
-module _ {P : Type 0} (z : Sizes) (log : List Record) (old : Pooled P) (d : PendingUndo) (n : ℕ) (ws : List SlotWrite) where
-  abbrev all_made : List Record → State → Type 0
-  all_made = IsShownWithin log old d n ws (length ws)
+abbrev all_made : {P : Type 0} → List Record → Pooled P → PendingUndo → ℕ → List SlotWrite → List Record → State → Type 0
+all_made log old d n ws = IsShownWithin log old d n ws (length ws)
 
-  closed : (x : List Record) (base : State) → IsSound base → all_made x base → IsBetween base old.images (comp_end d.txn n d.lsn ∷ rebased x log)
+module _ {P : Type 0} (z : Sizes) (log : List Record) (old : Pooled P) (d : PendingUndo) (n : ℕ) (ws : List SlotWrite) where
+  closed : (x : List Record) (base : State) → IsSound base → all_made log old d n ws x base → IsBetween base old.images (comp_end d.txn n d.lsn ∷ rebased x log)
   closed x base k i = aborts_go_on.closes base old.images (rebased x log) d.txn n d.lsn (deed_due d) ws k i.1
 
-  pub close_belongs : OfStore z all_made (λ x base. Belongs z log (comp_end d.txn n d.lsn) (paged old))
+  pub close_belongs : OfStore z (all_made log old d n ws) (λ x base. Belongs z log (comp_end d.txn n d.lsn) (paged old))
   close_belongs x base k same i =
       let all : List Record = rebased x log in
       let h = within_holds base old.images all d.txn n d.lsn (deed_due d) ws (length ws) k i.1 in
@@ -298,7 +298,7 @@ module _ {P : Type 0} (z : Sizes) (log : List Record) (old : Pooled P) (d : Pend
       subst (λ l. Belongs z l (comp_end d.txn n d.lsn) (paged old)) i.0
       (subst (λ y. Belongs y (marked all) (comp_end d.txn n d.lsn) (paged old)) same (belongs_next base.sizes old.images all (comp_end d.txn n d.lsn) h w refl))
 
-  pub close_shown : (new : Pooled P) → new ≡ old → OfStore z all_made (IsShown (comp_end d.txn n d.lsn ∷ log) new)
+  pub close_shown : (new : Pooled P) → new ≡ old → OfStore z (all_made log old d n ws) (IsShown (comp_end d.txn n d.lsn ∷ log) new)
   close_shown new is x base k same i = (
     past_more x log (comp_end d.txn n d.lsn) refl refl i.0,
     subst (λ (p : Pooled P). IsBetween base p.images (comp_end d.txn n d.lsn ∷ rebased x log)) (sym is) (closed x base k i),
@@ -327,34 +327,19 @@ module _ {P : Type 0} {z : Sizes} {log : List Record} {old mid : Pooled P} {f : 
   next : IsTakenNext log d n
   next = taken_next z log old f k.found d k.older k.first k.none n k.number
 
-  -- a write of it was not made
-  pub making_stops : (e : Refusal) → AbortStops z (IsMaking d.txn n ws log) log mid begun e → AbortStops z (IsAbortingFrom z log old) log old (IsShown log old) e
-  making_stops e s = stops_before z (IsMaking d.txn n ws log) (IsAbortingFrom z log old) log old mid (IsShown log old) begun e (λ l. making_aborts z (RepeatedSince z log (paged old)) log l d n ws next planned) k.images begun_shown s
+  -- behind some writes of it
+  pub making_on : (rs : List Record) → IsMaking d.txn n ws log rs → IsAbortingFrom z log old rs
+  making_on rs = making_aborts z (RepeatedSince z log (paged old)) log rs d n ws next planned
 
-  -- all were
-  module _ (now : List Record) (new : Pooled P) (made : HasGoneOn z (with_writes d.txn n (take (length ws) ws) log ≡ now) log now mid new begun (all_made z now new d n ws)) where
-    abbrev end : Record
-    end = comp_end d.txn n d.lsn
+  -- behind all of them
+  module _ (now : List Record) (made : with_writes d.txn n (take (length ws) ws) log ≡ now) where
+    pub taken : AbortsFrom z log old (comp_end d.txn n d.lsn ∷ now)
+    taken = closing_aborts z (RepeatedSince z log (paged old)) log now d n ws next planned (aborts.all_made d.txn n ws log now made)
 
-    taken : AbortsOn z (RepeatedSince z log (paged old)) log (end ∷ now)
-    taken = closing_aborts z (RepeatedSince z log (paged old)) log now d n ws next planned (aborts.all_made d.txn n ws log now made.aborting)
-
-    pub made_gone : HasGoneOn z (with_writes d.txn n (take (length ws) ws) log ≡ now) log now old new (IsShown log old) (all_made z now new d n ws)
-    made_gone = gone_join z (Unit {0}) log log old mid (IsShown log old) begun (alike_gone z log log old mid (IsShown log old) begun refl k.images begun_shown) (with_writes d.txn n (take (length ws) ws) log ≡ now) (with_writes d.txn n (take (length ws) ws) log ≡ now) now new (all_made z now new d n ws) (λ u x. x) made
-
-    -- its end was not
-    pub closing_stops : (e : Refusal) → StepStops (length now) (Belongs z now end (paged new)) e → AbortStops z (IsAbortingFrom z log old) log old (IsShown log old) e
-    closing_stops e step =
-        let here : AbortStops z (IsAbortingFrom z log old) now new (all_made z now new d n ws) e =
-        one_stops z (IsAbortingFrom z log old) now end new (all_made z now new d n ws) (making_aborts z (RepeatedSince z log (paged old)) log now d n ws next planned (record { made = length ws; are = made.aborting })) (BetweenRounds taken) e step (within_way z now new d n ws (length ws)) (close_belongs z now new d n ws) in
-        stops_join z (with_writes d.txn n (take (length ws) ws) log ≡ now) log now old new (IsShown log old) (all_made z now new d n ws) made_gone (IsAbortingFrom z log old) (IsAbortingFrom z log old) (λ m l h. h) e here
-
-    -- it was
-    pub closed_gone : (last : Pooled P) → last ≡ new → IsRecordRedone z now end (paged new) (paged last) → HasGoneOn z (AbortsFrom z log old (end ∷ now)) now (end ∷ now) new last (all_made z now new d n ws) (IsShown (end ∷ now) last)
-    closed_gone last same one = one_gone z (AbortsFrom z log old (end ∷ now)) now end new last (all_made z now new d n ws) (IsShown (end ∷ now) last) taken refl one (close_shown z now new d n ws last same)
-
-    pub taken_gone : (last : Pooled P) → last ≡ new → IsRecordRedone z now end (paged new) (paged last) → HasAborted z log old (end ∷ now) last
-    taken_gone last same one = gone_join z (with_writes d.txn n (take (length ws) ws) log ≡ now) log now old new (IsShown log old) (all_made z now new d n ws) made_gone (AbortsFrom z log old (end ∷ now)) (AbortsFrom z log old (end ∷ now)) (end ∷ now) last (IsShown (end ∷ now) last) (λ m x. x) (closed_gone last same one)
+    -- its end was not made
+    pub closing_stops : (new : Pooled P) (e : Refusal) → StepStops (length now) (Belongs new.sizes now (comp_end d.txn n d.lsn) (paged new)) e → AbortStops new.sizes (IsAbortingFrom z log old) now new (all_made now new d n ws) e
+    closing_stops new e step =
+        one_stops new.sizes (IsAbortingFrom z log old) now (comp_end d.txn n d.lsn) new (all_made now new d n ws) (making_on now (record { made = length ws; are = made })) (BetweenRounds taken) e step (within_way new.sizes now new d n ws (length ws)) (close_belongs new.sizes now new d n ws)
 
 -- ---- what is found behind a record
 

@@ -17,7 +17,7 @@ use Rattle.rq_analysis.specs.Recovered.{IsRecovering}
 use Rattle.rq_engine.specs.Earlier.{rebased}
 use Rattle.rq_restart.specs.Aborting.{HasGoneOn, IsOnItsWay, OfStore}
 use Rattle.rq_restart.specs.Repeating.{Repeats, paged}
-use Rattle.rq_restart.specs.Standing.{Found, KeepsStore, Stands, StandsOver, before}
+use Rattle.rq_restart.specs.Standing.{Found, Stands, StandsOver, before}
 use Rattle.rq_restart.proofs.Pasts.{IsAddedOn, added_one}
 use Rattle.rq_restart.proofs.Standing.{log_stands, pages_stand, records_stand}
 
@@ -28,10 +28,6 @@ way_images p l old new log now r d way told = ⊎_elim (λ all. ap (λ (x : Pool
 module _ {P L : Type 0} (p : page_device.Ghosts P) (l : log_device.Ghosts L) (f : Found P L) (one : List Record → State → Type 0) (z : Sizes) (old : Pooled P) (log : Logged L) (is : old.sizes ≡ z) (so : StandsOver p l f one old log) where
   sizes_are : z ≡ f.sizes
   sizes_are = sym is ∙ so.stands.sizes
-
-  -- so far each crash left a store of it
-  pub over_kept : KeepsStore p l f old.device log.device
-  over_kept = so.stands.on.path
 
   -- pages and log are others by now, and show the same store
   pub over_then : (other : List Record → State → Type 0) (new : Pooled P) (now : Logged L) → OfStore z one other → Stands p l f new now → StandsOver p l f other new now

@@ -14,6 +14,7 @@ pub mod Refused
 pub mod Undoing
 pub mod Found
 pub mod Aborting
+pub mod Aborted
 pub mod RolledBack
 pub mod Numbers
 pub mod Places

@@ -1,5 +1,5 @@
 -- What a restart answers: the store that it opened, or why it did not, and what it leaves of both devices.
-use Rattle.std.specs.Prelude.{◌≡◌, ℕ, ◌+◌, ◌<◌, ◌≤◌, List, [], drop, false, length, min, true}
+use Rattle.std.specs.Prelude.{◌≡◌, ℕ, ◌+◌, ◌-◌, ◌<◌, ◌≤◌, List, [], drop, false, length, min, true}
 use Rattle.rq_model.specs.declared.record.Record.{Record}
 use Rattle.rq_model.specs.declared.refusal.Refusal.{Refusal}
 use Rattle.rq_model.specs.Bases.{earlier}
@@ -77,11 +77,13 @@ module _ {P L : Type 0} (p : page_device.Ghosts P) (l : log_device.Ghosts L) (pa
     pub frames : length s.frames ≡ min (page_count s.state.sizes) (count + 1)
     -- where the frames are enough, the pages were only read, and at every moment the log had at most the records of a restart more
     pub read : page_count s.state.sizes ≤ count + 1 → OnlyRead p pages s.pages × BeginsFrom p l pages log s.pages s.log
-    -- a page that counts as changed is newer than it was read
+    -- no page is older than it was read, and one that counts as changed is newer
+    pub later : p.honest s.pages → (q : ℕ) → q < page_count s.state.sizes → lsn_of (p.seen pages q) ≤ lsn_of (image_at s.state.images q)
     pub marked : p.honest s.pages → (q : ℕ) → q < page_count s.state.sizes → is_changed s.changed q ≡ true
         → lsn_of (p.seen pages q) < lsn_of (image_at s.state.images q)
-    -- whatever the devices are, no page's LSN is beyond the log as it is then, and pages of that store alone were written
-    pub within : HaveLsnsWithin s.state.sizes (length s.state.records) (paged (pooled s))
+    -- whatever the devices are, the LSN of each page but the superblock is before that of the Restart record, and pages of that
+    -- store alone were written
+    pub within : HaveLsnsWithin s.state.sizes (length s.state.records - 1) (paged (pooled s))
     pub written : LeavesSound p s.state.sizes pages s.pages
     -- what a crash leaves of the pages, of honest devices
     pub pages_left : HaveBeenHonest p l s.pages s.log → LeavesPages p l pages log s.pages s.state.sizes s.state.records

@@ -208,7 +208,7 @@ module _ {P L : Type 0} (p : page_device.Ghosts P) (l : log_device.Ghosts L) whe
     pub continues : Continues first log [] now new.device new.records
     pub none_failed : NoneFailed p l first.device log now.device new.device
     pub pool : IsPool now.sizes now.images
-    pub within : HaveLsnsWithin now.sizes (length new.records) (paged now)
+    pub within : HaveLsnsWithin now.sizes (length new.records - 1) (paged now)
     pub cells_used : cells ≡ count_used now.sizes (slots_in now.sizes now.images)
     pub read : Logged L
     pub was_read : IsLogRead l log read

@@ -13,11 +13,12 @@ ghost use Rattle.rq_record.specs.Spelling.{IsTxnInRange};
 ghost use Rattle.rq_store.specs.Steps.{page_op};
 ghost use Rattle.rq_model.specs.Deeds.{deed_by};
 ghost use Rattle.rq_model.specs.Vocabulary.{In};
-ghost use Rattle.rq_restart.specs.Aborting.{AbortStops, AbortingStops, AbortsBehind, HasAborted, HasGoneOn, IsMaking, IsShown, IsShownWithin, PlanStops, with_writes};
+ghost use Rattle.rq_restart.specs.Aborted.{Aborts, Carries};
+ghost use Rattle.rq_restart.specs.Aborting.{IsMaking, IsShownWithin, PlanStops, with_writes};
 ghost use Rattle.rq_restart.specs.Checked.{IsEnded};
 ghost use Rattle.rq_restart.specs.Found.{IsAnalysisOf};
-ghost use Rattle.rq_restart.specs.Standing.{Found, KeepsStore, NoneHeld, StandsOver};
-ghost use Rattle.rq_restart.specs.Undoing.{GoesOn, HaveBeenHonest, HaveToldTruly, IsOfReads};
+ghost use Rattle.rq_restart.specs.Standing.{NoneHeld};
+ghost use Rattle.rq_restart.specs.Undoing.{IsOfReads};
 
 use crate::again::{blamed, due_again};
 use crate::analysis::Analysis;
@@ -56,25 +57,15 @@ pub(crate) fn abort_lost<P: PageDevice + Drop, L: LogDevice + Drop, B: Level>(
     requires follow { L.honest log.old.device → FollowAll log.old.records }
     requires running { log.old.failed ≡ false }
     requires cells { KnowsCells pages.old.sizes pages.old.images planner.old }
-    ensures behind { OnOk result (L.honest log.new.device → AbortsBehind log.old.records log.new.records) }
-    ensures gone_on { OnOk result (HaveToldTruly P.PageDevice L.LogDevice pages.old pages.new log.new.device
-        → HasAborted pages.old.sizes log.old.records pages.old log.new.records pages.new) }
+    ensures rounds { Aborts P.PageDevice L.LogDevice pages.old log.old result pages.new log.new }
     ensures ended { OnOk result (IsEnded log.new.records) }
     ensures none { OnOk result (IsEnded log.old.records → (log.new ≡ log.old) × (pages.new ≡ pages.old)) }
     ensures found { OnOk result (IsAnalysisOf analysis.new log.new.records) }
     ensures follow { OnOk result (L.honest log.new.device → FollowAll log.new.records) }
     ensures cells { OnOk result (KnowsCells pages.new.sizes pages.new.images planner.new) }
-    ensures stops { IfErr result (λ e. HaveToldTruly P.PageDevice L.LogDevice pages.old pages.new log.new.device
-        → AbortingStops pages.old.sizes log.old.records pages.old e) }
     ensures some { OnErr result (IsEnded log.old.records → ⊥) }
-    ensures goes_on { GoesOn P.PageDevice L.LogDevice pages.old log.old.device log.old.records result pages.new
-        log.new.device log.new.records }
     ensures running { OnOk result (log.new.failed ≡ false) }
     ensures room { OnOk result (log.new.reserved ≡ log.old.reserved) }
-    ensures way { HaveBeenHonest P.PageDevice L.LogDevice pages.new.device log.new.device → (f : Found P L)
-        → StandsOver P.PageDevice L.LogDevice f (IsShown log.old.records pages.old) pages.old log.old
-        → OnOk result (StandsOver P.PageDevice L.LogDevice f (IsShown log.new.records pages.new) pages.new log.new)
-        × OnErr result (KeepsStore P.PageDevice L.LogDevice f pages.new.device log.new.device) }
 {
     if analysis.open_work.all_ended() {
         return Ok(());
@@ -94,23 +85,13 @@ fn end_idle<P: PageDevice + Drop, L: LogDevice + Drop, B: Level>(
     requires found { IsAnalysisOf analysis.old log.old.records }
     requires follow { L.honest log.old.device → FollowAll log.old.records }
     requires running { log.old.failed ≡ false }
-    ensures behind { OnOk result (L.honest log.new.device → AbortsBehind log.old.records log.new.records) }
-    ensures gone_on { OnOk result (HaveToldTruly P.PageDevice L.LogDevice pages.old pages.new log.new.device
-        → HasAborted pages.old.sizes log.old.records pages.old log.new.records pages.new) }
+    ensures rounds { Aborts P.PageDevice L.LogDevice pages.old log.old result pages.new log.new }
     ensures same { OnOk result (pages.new ≡ pages.old) }
     ensures none { OnOk result (least_free analysis.new.dues analysis.new.open_work.active ≡ None) }
     ensures found { OnOk result (IsAnalysisOf analysis.new log.new.records) }
     ensures follow { OnOk result (L.honest log.new.device → FollowAll log.new.records) }
-    ensures stops { IfErr result (λ e. HaveToldTruly P.PageDevice L.LogDevice pages.old pages.new log.new.device
-        → AbortingStops pages.old.sizes log.old.records pages.old e) }
-    ensures goes_on { GoesOn P.PageDevice L.LogDevice pages.old log.old.device log.old.records result pages.new
-        log.new.device log.new.records }
     ensures running { OnOk result (log.new.failed ≡ false) }
     ensures room { OnOk result (log.new.reserved ≡ log.old.reserved) }
-    ensures way { HaveBeenHonest P.PageDevice L.LogDevice pages.new.device log.new.device → (f : Found P L)
-        → StandsOver P.PageDevice L.LogDevice f (IsShown log.old.records pages.old) pages.old log.old
-        → OnOk result (StandsOver P.PageDevice L.LogDevice f (IsShown log.new.records pages.new) pages.new log.new)
-        × OnErr result (KeepsStore P.PageDevice L.LogDevice f pages.new.device log.new.device) }
     ensures planner { planner.new ≡ planner.old }
 {
     while let Some(txn) = next_end(analysis.open_work.active(), &analysis.dues) {
@@ -134,23 +115,13 @@ fn undo_all_due<P: PageDevice + Drop, L: LogDevice + Drop, B: Level>(
     requires none { least_free analysis.old.dues analysis.old.open_work.active ≡ None }
     requires running { log.old.failed ≡ false }
     requires cells { KnowsCells pages.old.sizes pages.old.images planner.old }
-    ensures behind { OnOk result (L.honest log.new.device → AbortsBehind log.old.records log.new.records) }
-    ensures gone_on { OnOk result (HaveToldTruly P.PageDevice L.LogDevice pages.old pages.new log.new.device
-        → HasAborted pages.old.sizes log.old.records pages.old log.new.records pages.new) }
+    ensures rounds { Aborts P.PageDevice L.LogDevice pages.old log.old result pages.new log.new }
     ensures ended { OnOk result (IsEnded log.new.records) }
     ensures found { OnOk result (IsAnalysisOf analysis.new log.new.records) }
     ensures follow { OnOk result (L.honest log.new.device → FollowAll log.new.records) }
     ensures cells { OnOk result (KnowsCells pages.new.sizes pages.new.images planner.new) }
-    ensures stops { IfErr result (λ e. HaveToldTruly P.PageDevice L.LogDevice pages.old pages.new log.new.device
-        → AbortingStops pages.old.sizes log.old.records pages.old e) }
-    ensures goes_on { GoesOn P.PageDevice L.LogDevice pages.old log.old.device log.old.records result pages.new
-        log.new.device log.new.records }
     ensures running { OnOk result (log.new.failed ≡ false) }
     ensures room { OnOk result (log.new.reserved ≡ log.old.reserved) }
-    ensures way { HaveBeenHonest P.PageDevice L.LogDevice pages.new.device log.new.device → (f : Found P L)
-        → StandsOver P.PageDevice L.LogDevice f (IsShown log.old.records pages.old) pages.old log.old
-        → OnOk result (StandsOver P.PageDevice L.LogDevice f (IsShown log.new.records pages.new) pages.new log.new)
-        × OnErr result (KeepsStore P.PageDevice L.LogDevice f pages.new.device log.new.device) }
 {
     while let Some((txn, lsn)) = newest_due(analysis) {
         log.shows_kept();
@@ -192,25 +163,15 @@ fn undo_due<P: PageDevice + Drop, L: LogDevice + Drop, B: Level>(
         × (first.txn ≡ due.now.txn) × (first.lsn ≡ due.now.lsn) × (L.honest log.old.device → due.now ≡ first) }
     requires running { log.old.failed ≡ false }
     requires cells { KnowsCells pages.old.sizes pages.old.images planner.old }
-    ensures behind { OnOk result (L.honest log.new.device → AbortsBehind log.old.records log.new.records) }
-    ensures gone_on { OnOk result (HaveToldTruly P.PageDevice L.LogDevice pages.old pages.new log.new.device
-        → HasAborted pages.old.sizes log.old.records pages.old log.new.records pages.new) }
+    ensures rounds { Aborts P.PageDevice L.LogDevice pages.old log.old result pages.new log.new }
     ensures rest { OnOk result ((first : PendingUndo) × (analysis.old.dues ≡ first ∷ analysis.new.dues)) }
     ensures lost { OnOk result (L.honest log.new.device → In due.now.txn analysis.old.open_work.active) }
     ensures active { OnOk result (analysis.new.open_work.active ≡ analysis.old.open_work.active) }
     ensures found { OnOk result (IsAnalysisOf analysis.new log.new.records) }
     ensures follow { OnOk result (L.honest log.new.device → FollowAll log.new.records) }
     ensures cells { OnOk result (KnowsCells pages.new.sizes pages.new.images planner.new) }
-    ensures stops { IfErr result (λ e. HaveToldTruly P.PageDevice L.LogDevice pages.old pages.new log.new.device
-        → AbortingStops pages.old.sizes log.old.records pages.old e) }
-    ensures goes_on { GoesOn P.PageDevice L.LogDevice pages.old log.old.device log.old.records result pages.new
-        log.new.device log.new.records }
     ensures running { OnOk result (log.new.failed ≡ false) }
     ensures room { OnOk result (log.new.reserved ≡ log.old.reserved) }
-    ensures way { HaveBeenHonest P.PageDevice L.LogDevice pages.new.device log.new.device → (f : Found P L)
-        → StandsOver P.PageDevice L.LogDevice f (IsShown log.old.records pages.old) pages.old log.old
-        → OnOk result (StandsOver P.PageDevice L.LogDevice f (IsShown log.new.records pages.new) pages.new log.new)
-        × OnErr result (KeepsStore P.PageDevice L.LogDevice f pages.new.device log.new.device) }
 {
     log.shows_kept();
     if log.last() >= LOG_LIMIT {
@@ -251,29 +212,19 @@ fn make_all<P: PageDevice + Drop, L: LogDevice + Drop, B: Level>(
     requires cells { KnowsCells pages.old.sizes pages.old.images planner.old }
     ensures records { OnOk result
         (with_writes due.now.txn operation (take (length writes.now) writes.now) log.old.records ≡ log.new.records) }
-    ensures gone_on { OnOk result (HaveToldTruly P.PageDevice L.LogDevice pages.old pages.new log.new.device → HasGoneOn pages.old.sizes
+    ensures made { Carries P.PageDevice L.LogDevice
         (with_writes due.now.txn operation (take (length writes.now) writes.now) log.old.records ≡ log.new.records)
-        log.old.records log.new.records pages.old pages.new
+        (IsMaking due.now.txn operation writes.now log.old.records)
         (IsShownWithin log.old.records pages.old due.now operation writes.now 0)
-        (IsShownWithin log.new.records pages.new due.now operation writes.now (length writes.now))) }
+        (IsShownWithin log.new.records pages.new due.now operation writes.now (length writes.now))
+        pages.old log.old result pages.new log.new }
     ensures rest { OnOk result ((analysis.new.dues ≡ analysis.old.dues)
         × (analysis.new.open_work.active ≡ analysis.old.open_work.active)) }
     ensures found { OnOk result (IsAnalysisOf analysis.new log.new.records) }
     ensures follow { OnOk result (L.honest log.new.device → FollowAll log.new.records) }
     ensures cells { OnOk result (KnowsCells pages.new.sizes pages.new.images planner.new) }
-    ensures stops { IfErr result (λ e. HaveToldTruly P.PageDevice L.LogDevice pages.old pages.new log.new.device → AbortStops pages.old.sizes
-        (IsMaking due.now.txn operation writes.now log.old.records) log.old.records pages.old
-        (IsShownWithin log.old.records pages.old due.now operation writes.now 0) e) }
-    ensures goes_on { GoesOn P.PageDevice L.LogDevice pages.old log.old.device log.old.records result pages.new
-        log.new.device log.new.records }
     ensures running { OnOk result (log.new.failed ≡ false) }
     ensures room { OnOk result (log.new.reserved ≡ log.old.reserved) }
-    ensures way { HaveBeenHonest P.PageDevice L.LogDevice pages.new.device log.new.device → (f : Found P L)
-        → StandsOver P.PageDevice L.LogDevice f (IsShownWithin log.old.records pages.old due.now operation writes.now 0)
-        pages.old log.old
-        → OnOk result (StandsOver P.PageDevice L.LogDevice f
-        (IsShownWithin log.new.records pages.new due.now operation writes.now (length writes.now)) pages.new log.new)
-        × OnErr result (KeepsStore P.PageDevice L.LogDevice f pages.new.device log.new.device) }
 {
     for index in 0..writes.len() {
         let write = &writes[index];

@@ -1,5 +1,5 @@
 //! Opening a store that a crash, or nothing at all, left behind.
-ghost use Rattle.std.specs.Prelude.{◌≡◌, ◌≢◌, [], ◌+◌, ◌<◌, ◌≤◌, ◌∷◌, ◌++◌, Ok, Err, List, IfOk, IfErr, OnOk, false, length};
+ghost use Rattle.std.specs.Prelude.{◌≡◌, ◌≢◌, [], ◌+◌, ◌-◌, ◌<◌, ◌≤◌, ◌∷◌, ◌++◌, Ok, Err, List, IfOk, IfErr, OnOk, false, length};
 ghost use Rattle.rq_disk.specs.Device.{FailureIsCounted, Images};
 ghost use Rattle.rq_model.specs.declared.record.Record.TheVariants as records;
 ghost use Rattle.rq_model.specs.declared.record.Record.{Record};
@@ -80,8 +80,9 @@ pub struct Stopped<P, L> {
 /// Opens a store. It reads and checks pages and log, and repeats history on the pages. Operations without an end are undone by
 /// slots, transactions without one by inverses. The records of that are forced, with the Restart record of a new incarnation. All
 /// that is done in so many `frames` beside that of the superblock. Where these are too few for the pages, all that the log's device
-/// reads as is forced first. Pages then give way to others, and are read again. The levels are dropped where it is refused. Both
-/// devices come back as a stop inside the restart may leave them.
+/// reads as is forced first. Pages then give way to others, and are read again. The LSN of each page but the superblock is before that of
+/// the Restart record, whatever the devices are. No page of an honest device is older than it was read. The levels are dropped where it
+/// is refused. Both devices come back as a stop inside the restart may leave them.
 ///
 /// # Errors
 /// `NoMemory`. `DiskRead` or `DiskWrite` where a device fails. `Damaged` where a page or a record breaks the format, or a device
@@ -300,7 +301,7 @@ fn finish_restart<P: PageDevice + Drop, L: LogDevice + Drop, B: Level>(
         → IsRead L.LogDevice log.old.device log.new.device) }
     ensures telling { GoesOnTelling L.LogDevice log.old.device log.new.device (IfErr result (λ e. e ≢ Refusal.DiskWrite)) }
     ensures pool { OnOk result (IsPool pages.new.sizes pages.new.images) }
-    ensures within { OnOk result (HaveLsnsWithin pages.old.sizes (length log.new.records) (paged pages.new)) }
+    ensures within { OnOk result (HaveLsnsWithin pages.old.sizes (length log.new.records - 1) (paged pages.new)) }
     // What was checked, or why it was refused.
     ensures checked { OnOk result (HaveToldTruly P.PageDevice L.LogDevice pages.old pages.new log.new.device → (first : Images)
         → Repeats pages.old.sizes log.old.records first (paged pages.old)

@@ -332,10 +332,8 @@ returns-in-Ok-begin_incarnation-clause-within g c =
     let new = c.read_slots.new.pages in
     let log = c.args.log.now.records in
     let then = c.undo_all.new.log.records in
-    let now = c.begin_incarnation.new.log.records in
     let undo = c.in-Ok-undo_all.ensures.goes_on in
-    let behind = c.begin_incarnation.ensures.behind in
     let first : HaveLsnsWithin pages.sizes (length log) (paged pages) = subst (λ n. HaveLsnsWithin pages.sizes n (paged pages)) c.last.ensures c.in-Ok.ensures.within in
     let undone = marked_within pages.sizes (length log) (length then) pages mid (no_shorter undo.behind.0 log then undo.behind.1) undo.marked first in
-    marked_within pages.sizes (length then) (length now) mid new (no_shorter behind.0 then now behind.1)
-    (kept_marked g.P.PageDevice 0 (length now) mid new (c.in-Ok-read_slots.ensures.read.read.kept 0)) undone
+    let kept = marked_within pages.sizes (length then) (length then) mid new (omega arith) (kept_marked g.P.PageDevice 0 (length then) mid new (c.in-Ok-read_slots.ensures.read.read.kept 0)) undone in
+    λ p low high. (let there = kept p low high in let one_more = ap (λ (k : List Record). length k) c.in-Ok-begin_incarnation.ensures.records in omega (arith, there, one_more))

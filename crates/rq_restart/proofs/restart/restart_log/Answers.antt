@@ -1,4 +1,4 @@
-use Rattle.std.proofs.Common.{◌<◌, ℕ, Ok, length, sym, subst}
+use Rattle.std.proofs.Common.{◌-◌, ◌<◌, ℕ, Ok, length, sym, subst}
 use Rattle.rq_restart.specs.Repeating.{HaveLsnsWithin, paged}
 use Rattle.rq_restart.proofs.Continuing.{all_continues, begins_so, none_fail_behind, refuses_reading, refuses_so, repeats_so, tells_behind}
 use Rattle.rq_restart.proofs.restart.restart_log.Goals as goal
@@ -26,7 +26,7 @@ returns-in-Ok-finish_restart-clause-opened g c =
       continues = all_continues P L first mid last was log new r read.went read.went.counted read.repeated read.read made.continues;
       none_failed = none_fail_behind P L first.device mid.device last.device was log.device new.device read.went.counted made.counted;
       pool = made.pool;
-      within = subst (λ z. HaveLsnsWithin z (length new.records) (paged last)) (sym made.continues.sizes) made.within;
+      within = subst (λ z. HaveLsnsWithin z (length new.records - 1) (paged last)) (sym made.continues.sizes) made.within;
       cells_used = c.used_cells-cells.ensures;
       read = log;
       was_read = read.read;

@@ -14,6 +14,7 @@ use Rattle.rq_restart.proofs.GoingOn.{goes_reading, goes_refused, goes_then, tol
 use Rattle.rq_restart.proofs.Linking.{unlinked_stops}
 use Rattle.rq_restart.proofs.HandedOn.{handed_stops, handed_way}
 use Rattle.rq_restart.proofs.RollingBack.{IsAbortedBehind, IsUndoneRead, abort_rolls_nothing_back, all_went, links_images, links_truly, links_went, over_two, pool_then, repeated_then, rolled_back, rolled_back_counted, rounds_went, stands_four, told_rounds, told_three, told_two, undo_rolls_nothing_back, undone_active, unread_reads, unread_rolls_nothing_back, went}
+use Rattle.rq_restart.proofs.RoundsBehind.{rounds_made}
 use Rattle.rq_restart.proofs.Standing.{pages_stand}
 use Rattle.rq_restart.proofs.rolling_back.undo_all.Given.{Over}
 use Rattle.rq_restart.proofs.rolling_back.undo_all.Goals.{In_ok-abort_lost, In_ok-tell}
@@ -25,7 +26,7 @@ undone : (g : Over) (c : In_ok-tell g) → IsUndoneRead g.P.PageDevice g.L.LogDe
 undone g c = (let undo = c.in_ok-undo_unfinished.ensures in record { goes = undo.goes_on; repeated = undo.repeated; undone = undo.undone; pool = undo.pool; way = λ h f so found. (undo.way h f so found).0; read = c.in_ok-tell.ensures.read })
 
 aborted : (g : Over) (c : In_ok-abort_lost g) → IsAbortedBehind g.P.PageDevice g.L.LogDevice c.tell.new.pages c.abort_lost.new.pages c.undo_unfinished.new.log c.abort_lost.new.log
-aborted g c = (let abort = c.in_ok-abort_lost.ensures in record { goes = abort.goes_on; gone_on = abort.gone_on; ended = abort.ended; none = abort.none; way = λ h f so. (abort.way h f so).0 })
+aborted g c = (let abort = c.in_ok-abort_lost.ensures in record { to = rounds_made abort.rounds; ended = abort.ended; none = abort.none })
 
 -- ---- operations were not undone
 
@@ -95,22 +96,22 @@ returns-in_err-abort_lost-clause-stops g c =
     let k = undone g (goal.at.returns-in_err-abort_lost-clause-stops g c).In_ok-tell in
     let same = (went only k).sizes in
     handed_stops _ c.from_residual-in_err-abort_lost.result e (search rules) (λ told first before.
-    let told2 = told_two only k three now _ abort.goes_on told in
+    let told2 = told_two only k three now _ abort.rounds.carries.goes_on told in
     abort_rolls_nothing_back z log mid two (k.undone told2.1) (subst (λ y. IsPool y two.images) same (pool_then only k told2)) abort.some first ((repeated_then only k told2).repeated first before) e
-    (subst (λ y. AbortingStops y mid two e) same (abort.stops (told_three only k three now _ abort.goes_on told))))
+    (subst (λ y. AbortingStops y mid two e) same (abort.rounds.carries.stops (told_three only k three now _ abort.rounds.carries.goes_on told))))
 
 pub returns-in_err-abort_lost-clause-goes_on : goal.returns-in_err-abort_lost-clause-goes_on
 returns-in_err-abort_lost-clause-goes_on g c =
     let e = c.in_err-abort_lost.field-0.0 in
     goes_refused (Err e) c.from_residual-in_err-abort_lost.result e refl (search rules)
-    (all_went g.met.L.LogDevice.only_now (undone g (goal.at.returns-in_err-abort_lost-clause-goes_on g c).In_ok-tell) c.abort_lost.new.pages c.abort_lost.new.log (Err e) c.in_err-abort_lost.ensures.goes_on)
+    (all_went g.met.L.LogDevice.only_now (undone g (goal.at.returns-in_err-abort_lost-clause-goes_on g c).In_ok-tell) c.abort_lost.new.pages c.abort_lost.new.log (Err e) c.in_err-abort_lost.ensures.rounds.carries.goes_on)
 
 pub returns-in_err-abort_lost-clause-way : goal.returns-in_err-abort_lost-clause-way
 returns-in_err-abort_lost-clause-way g c = λ h f so found.
     let abort = c.in_err-abort_lost.ensures in
     let k = undone g (goal.at.returns-in_err-abort_lost-clause-way g c).In_ok-tell in
     handed_way _ _ c.from_residual-in_err-abort_lost.result c.in_err-abort_lost.field-0.0 (search rules)
-    (abort.way h f (over_two g.met.L.LogDevice.only_now k g.met.P.PageDevice.only_now g.met.P.PageDevice.counts_now g.met.L.LogDevice.counts_now f so found (abort.goes_on.pages_honest h.0, abort.goes_on.log_honest h.1) abort.some)).1
+    (abort.rounds.carries.way h f (over_two g.met.L.LogDevice.only_now k g.met.P.PageDevice.only_now g.met.P.PageDevice.counts_now g.met.L.LogDevice.counts_now f so found (abort.rounds.carries.goes_on.pages_honest h.0, abort.rounds.carries.goes_on.log_honest h.1) abort.some)).1
 
 -- ---- chains are not whole, or were not looked through
 
@@ -158,8 +159,8 @@ returns-clause-is g c = λ h.
     let abort = c.in_ok-abort_lost.ensures in
     let log = c.args.log.now.records in
     let mid = c.undo_unfinished.new.log.records in
-    let u = undo.undone (abort.goes_on.log_honest h) in
-    record { undone = mid; undoes = u; aborting = abort.behind h; ended = abort.ended; none_lost = λ e. ap (λ (y : Logged _). y.records) (abort.none (undone_active log mid u ∙ e)).0 }
+    let u = undo.undone (abort.rounds.carries.goes_on.log_honest h) in
+    record { undone = mid; undoes = u; aborting = abort.rounds.behind h; ended = abort.ended; none_lost = λ e. ap (λ (y : Logged _). y.records) (abort.none (undone_active log mid u ∙ e)).0 }
 
 pub returns-clause-rolls_back : goal.returns-clause-rolls_back
 returns-clause-rolls_back g c = λ told.
