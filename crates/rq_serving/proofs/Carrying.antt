@@ -48,7 +48,7 @@ module _ {G S : Type 0} (answers_by : G → List (ℕ × Bool)) (made_by handed_
     stopped = b.stopped ∙ (ap (λ l. said_no newer || l) a.stopped ∙ sym (said_no_join newer older g.stopped));
   }
 
-  pub begins : (g : Asking G) (s : S) (b : Session) (first : Action)
+  begins : (g : Asking G) (s : S) (b : Session) (first : Action)
       → IsGoing answers_by made_by handed_to g g s s b first b first
   begins g s b first = record {
     rounds = [];
@@ -59,6 +59,14 @@ module _ {G S : Type 0} (answers_by : G → List (ℕ × Bool)) (made_by handed_
     turns = (refl, refl);
     goes_on = tt;
   }
+
+  -- the session was carried on to what asks for this call, and the gate, asked where that is to be made again, lets it through
+  pub record IsAsking (g i : Asking G) (old mid : S) (b : Session) (first : Action) (m : Session) (e : Event) : Type 0 where
+    pub action : Action
+    pub gate : Asking G
+    pub going : IsGoing answers_by made_by handed_to g gate old mid b first m action
+    pub asks : Asks answers_by gate i (is_again action) 4
+    pub may : IsAsked action e × (may_call i.stopped e ≡ true)
 
   -- the session is the same
   stays : (g h : Asking G) (old mid : S) (b : Session) (first : Action) (m after : Session) (a : Action)
@@ -107,7 +115,7 @@ module _ {G S : Type 0} (answers_by : G → List (ℕ × Bool)) (made_by handed_
     going.goes_on,
   )
 
-  pub one_more : (g h i k : Asking G) (old mid new : S) (b m m_too after : Session) (first a next : Action) (e : Event)
+  one_more : (g h i k : Asking G) (old mid new : S) (b m m_too after : Session) (first a next : Action) (e : Event)
       → IsGoing answers_by made_by handed_to g h old mid b first m a → Asks answers_by h i (is_again a) 4
       → m_too ≡ m → IsAsked a e × (may_call i.stopped e ≡ true)
       → IsCall answers_by made_by handed_to i k mid new e m_too next after → is_again next ≡ false
@@ -123,7 +131,7 @@ module _ {G S : Type 0} (answers_by : G → List (ℕ × Bool)) (made_by handed_
         goes_on = goes;
       }
 
-  pub comes : (g h i : Asking G) (old mid : S) (b m m_too : Session) (first next : Action) (held : Option Event) (c : Served)
+  comes : (g h i : Asking G) (old mid : S) (b m m_too : Session) (first next : Action) (held : Option Event) (c : Served)
       → IsGoing answers_by made_by handed_to g h old mid b first m next → Asks answers_by h i (is_again next) 4
       → m_too ≡ m → IsCome i.stopped next c → held ≡ None
       → IsCarried answers_by made_by handed_to g i old mid b first m_too held c
@@ -145,7 +153,7 @@ module _ {G S : Type 0} (answers_by : G → List (ℕ × Bool)) (made_by handed_
         });
       }
 
-  pub holds : (g h i k : Asking G) (old mid new : S) (b m m_too after : Session) (first a : Action) (e again : Event)
+  holds : (g h i k : Asking G) (old mid new : S) (b m m_too after : Session) (first a : Action) (e again : Event)
       → IsGoing answers_by made_by handed_to g h old mid b first m a → Asks answers_by h i (is_again a) 4
       → m_too ≡ m → IsAsked a e × (may_call i.stopped e ≡ true)
       → IsCall answers_by made_by handed_to i k mid new e m_too (Again again) after
@@ -163,6 +171,62 @@ module _ {G S : Type 0} (answers_by : G → List (ℕ × Bool)) (made_by handed_
           (again, turns_on g h i k old mid new b m_too after first a (Again again) e going before may c, refl, refl),
         );
       }
+
+  -- what the session was to do first is this call
+  pub asks_first : (g i : Asking G) (s : S) (b m : Session) (first : Action) (e : Event) → Asks answers_by g i (is_again first) 4
+      → m ≡ b → IsAsked first e × (may_call i.stopped e ≡ true) → IsAsking g i s s b first m e
+  asks_first g i s b m first e asks is may = record {
+    action = first;
+    gate = g;
+    going = stays g g s s b first b m first (begins g s b first) is;
+    asks = asks;
+    may = may;
+  }
+
+  -- or none
+  pub ends_first : (g i : Asking G) (s : S) (b m : Session) (first : Action) (held : Option Event) (c : Served)
+      → Asks answers_by g i (is_again first) 4 → m ≡ b → IsCome i.stopped first c → held ≡ None
+      → IsCarried answers_by made_by handed_to g i s s b first m held c
+  ends_first g i s b m first held c asks is come none = comes g g i s s b b m first first held c (begins g s b first) asks is come none
+
+  -- where nothing is to be made again, the gate is not asked
+  asks_nothing : (g : Asking G) (b : Bool) → b ≡ false → Asks answers_by g g b 4
+  asks_nothing g b is = subst (λ (x : Bool). Asks answers_by g g x 4) (sym is) (record { said = []; at = refl; says = says_nothing g })
+
+  -- the call that was asked for is made: the session is carried on to what is to be done next
+  called_on : (g i k : Asking G) (old mid new : S) (b m after : Session) (first next : Action) (e : Event)
+      → IsAsking g i old mid b first m e → IsCall answers_by made_by handed_to i k mid new e m next after → is_again next ≡ false
+      → IsGoing answers_by made_by handed_to g k old new b first after next
+  called_on g i k old mid new b m after first next e asked c goes =
+      one_more g asked.gate i k old mid new b m m after first asked.action next e asked.going asked.asks refl asked.may c goes
+
+  -- that is another call, which may be made
+  pub asks_on : (g i k : Asking G) (old mid new : S) (b m after : Session) (first : Action) (e further : Event)
+      → IsAsking g i old mid b first m e → IsCall answers_by made_by handed_to i k mid new e m (Do further) after
+      → may_call k.stopped further ≡ true → IsAsking g k old new b first after further
+  asks_on g i k old mid new b m after first e further asked c may = record {
+    action = Do further;
+    gate = k;
+    going = called_on g i k old mid new b m after first (Do further) e asked c refl;
+    asks = asks_nothing k false refl;
+    may = (refl, may);
+  }
+
+  -- or no call is made
+  pub ends_on : (g i k : Asking G) (old mid new : S) (b m after : Session) (first next : Action) (e : Event) (held : Option Event) (c : Served)
+      → IsAsking g i old mid b first m e → IsCall answers_by made_by handed_to i k mid new e m next after
+      → is_again next ≡ false → IsCome k.stopped next c → held ≡ None
+      → IsCarried answers_by made_by handed_to g k old new b first after held c
+  ends_on g i k old mid new b m after first next e held c asked call goes come none =
+      comes g k k old new b after after first next held c
+      (called_on g i k old mid new b m after first next e asked call goes) (asks_nothing k (is_again next) goes) refl come none
+
+  -- or it is to be made again
+  pub holds_on : (g i k : Asking G) (old mid new : S) (b m after : Session) (first : Action) (e again : Event)
+      → IsAsking g i old mid b first m e → IsCall answers_by made_by handed_to i k mid new e m (Again again) after
+      → IsCarried answers_by made_by handed_to g k old new b first after (Some again) came.Held
+  holds_on g i k old mid new b m after first e again asked c =
+      holds g asked.gate i k old mid new b m m after first asked.action e again asked.going asked.asks refl asked.may c
 
 -- a call that is asked for where the transaction is this one
 its_own : (s : Stage) (a : Action) (e : Event) → NamesOwn s a → IsAsked a e → IsOwn (own s) (call_of e)

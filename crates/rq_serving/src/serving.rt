@@ -164,18 +164,26 @@ impl<G: Gate> ServedSession<G> {
         ensures { IsCarried G.answers S.made S.told self.old.gate self.new.gate steps.old steps.new self.old.session first self.new.session self.new.held result }
     {
         self.held = None;
-        let mut action = first;
+        let mut event = match self.asked(first) {
+            Ok(event) => event,
+            Err(came) => return came,
+        };
         for _ in rt.forever() {
-            let event = match self.asked(action) {
-                Ok(event) => event,
-                Err(came) => return came,
-            };
-            action = match to_be_done_now(self.called(steps, event)) {
-                Ok(action) => action,
-                Err(event) => {
+            event = match self.called(steps, event) {
+                Action::Do(event) => {
+                    if may_be_made(&event, self.gate.has_stopped()) {
+                        event
+                    } else {
+                        return Served::Ended;
+                    }
+                }
+                Action::Again(event) => {
                     self.held = Some(event);
                     return Served::Held;
                 }
+                Action::Await(commit) => return Served::Waits(commit.lsn()),
+                Action::Answer(answer) => return Served::Answered(answer),
+                Action::End => return Served::Ended,
             };
         }
         unreachable!()
@@ -234,20 +242,6 @@ fn to_be_made(action: Action, has_stopped: bool) -> Result<Event, Served>
         Action::Await(commit) => Err(Served::Waits(commit.lsn())),
         Action::Answer(answer) => Err(Served::Answered(answer)),
         Action::End => Err(Served::Ended),
-    }
-}
-
-// What is to be done now, or the call that is to be made again.
-fn to_be_done_now(action: Action) -> Result<Action, Event>
-    ensures now { IfOk result (λ same. (same ≡ action) × (is_again same ≡ false)) }
-    ensures again { IfErr result (λ event. action ≡ Again event) }
-{
-    match action {
-        Action::Again(event) => Err(event),
-        Action::Do(event) => Ok(Action::Do(event)),
-        Action::Await(commit) => Ok(Action::Await(commit)),
-        Action::Answer(answer) => Ok(Action::Answer(answer)),
-        Action::End => Ok(Action::End),
     }
 }
 

@@ -316,6 +316,7 @@ fn room_for(audit: &mut Vec<AuditEntry>, event: &Event) -> Result<Event, AllocEr
 }
 
 // One entry more, where there is room for it.
+#[inline(always)]
 fn add_entry(audit: &mut Vec<AuditEntry>, entry: AuditEntry)
     requires { vec_len audit.old < vec_capacity audit.old }
     ensures { audit.new.items ≡ audit.old.items ++ entry ∷ [] }
@@ -324,6 +325,7 @@ fn add_entry(audit: &mut Vec<AuditEntry>, entry: AuditEntry)
 }
 
 // The stamp of a call that memory was wanting for.
+#[inline(always)]
 fn refused(pass: u64, event: Event) -> Stamped
     ensures pass { result.pass ≡ pass }
     ensures event { result.event ≡ event }
@@ -337,6 +339,7 @@ fn refused(pass: u64, event: Event) -> Stamped
 }
 
 // The same reply. Only a content takes memory.
+#[inline(always)]
 fn copy_of(alloc: Global, reply: &Reply) -> Result<Reply, AllocError>
     ensures same { IfOk result (λ copy. gave copy ≡ gave reply.now) }
     ensures content { OnErr result (IsContent reply.now) }
