@@ -9,6 +9,13 @@ The machine stops at each, and then in the two restarts behind that. Every secon
 end, so that pages also make way for what is undone by pages, and by inverses. How often something is met amid that is counted apart.
 So it goes with a list in which frames are wanting for a start.
 
+The device calls of that restart are counted as they fail. `Ways` says by docs/RECOVERY.md and docs/DECISIONS.md how many pages it brings
+in and writes out, and how often it forces. There have to be so many, neither more nor fewer. Beside these it reads what any opening does
+(tests/reference.py), and pages that it looks at. It may look three times at each page in no frame: for what is taken back, for the
+chains, and for what waits (4, 5 and 6 of docs/RECOVERY.md). It may look once more for each write that takes something back. For each
+message that waits it may look twice: at its cell, and again at its sender's page. Where a force of new records fails, the next restart
+stops at some calls behind its first force. All that the log read as is left then, though these stops keep nothing that is not forced.
+
     python3 tests/frames.py [--program PROGRAM] [--first SEED] [--lists N]
 """
 import argparse
@@ -45,11 +52,17 @@ ROW_LINES = [
     b"start-send 1.5 60 1 e", *3 * [b"step 1.1 1"], b"finish 1.1 1", b"start-send 1.5 60 1 e", b"force", b"start-send 1.5 60 1 e", b"force",
 ]  # fmt: skip
 
+# A seed whose pages would be ahead of the log, if a restart in 8 frames did not force what it reads.
+AHEAD = 15
+
 # What shows the store behind its last crash.
 LAST = [b"crash 0 -", b"restart", b"content"]
 
 # What is kept of the records of a restart that stops again.
 KEEPS = b"0", b"%d" % ALL, b"0+20", b"1+20"
+
+# At how many calls the restart behind a force that failed stops.
+STOPS = 8
 
 # Of each page the newest image is left, or the synced one.
 NEWEST, SYNCED = b"-", b",".join([b"0"] * 64)
@@ -63,7 +76,8 @@ WANTED = {
     "OpeningRead": 1850, "OpeningWrite": 420, "OpeningStopped": 4500, "OpeningStoppedThrice": 4300, "Stopped": 4900, "PoolFull": 2,
     "OpeningUndoesBoth": 27, "UndoingPagesRead": 150, "UndoingPagesWrite": 16, "UndoingPagesStopped": 340,
     "UndoingPagesStoppedThrice": 330, "UndoingDeedsRead": 55, "UndoingDeedsWrite": 45, "UndoingDeedsStopped": 200,
-    "UndoingDeedsStoppedThrice": 180,
+    "UndoingDeedsStoppedThrice": 180, "WayMade": 400, "WayWritten": 330, "WayForced": 80, "Looked": 850, "UnforcedStopped": 250,
+    "WouldBeAhead": 1,
 }  # fmt: skip
 
 
@@ -183,6 +197,54 @@ def kinds_of_opening(restarts):
     return {b"not-opened 3 DiskRead": ["Read"], b"not-opened 15 DiskWrite": ["Write"]}.get(restarts[0], [])
 
 
+class Ways:
+    """The device calls of a restart in few frames, by the documents, from the LSNs of the pages and the length of the log on. The first
+    pages stand in frames, and what the log reads as is forced. A page that a record writes, and that lacks it, is brought in. The next
+    behind the frame that was filled last gives way, all round, and is written out where it has a change. Amid what is undone that goes
+    behind a force of all records. `others` has each call that is no read, by how many records are handed over where it fails."""
+
+    def __init__(self, frames, lsns, log, forced):
+        self.frames, self.next, self.changed = list(range(1, frames + 1)), 0, set()
+        self.lsns, self.images, self.log, self.handed, self.forced = list(lsns), list(lsns), log, log, forced
+        self.others, self.met = [log], Counter(WayForced=1)
+        self.forces = []  # of new records: how many are forced before and behind it, and the LSNs of the pages as they are stored
+
+    def repeat(self, records):
+        for lsn, record in enumerate(records, 1):
+            if record[0] in ("write", "back") and self.lsns[record[2]] < lsn:
+                self.bring_in(record[2], lsn)
+        return self
+
+    def force(self, last):
+        """All records up to this one are handed over, if any is not, and forced."""
+        if self.handed < last:
+            self.others.append(self.handed)
+            self.forces.append((self.forced, last, list(self.images)))
+        self.others.append(last)
+        self.handed = self.forced = last
+        self.met["WayForced"] += 1
+
+    def bring_in(self, page, lsn):
+        if page not in self.frames:
+            if lsn > self.log:
+                self.force(lsn - 1)
+            gone, self.frames[self.next] = self.frames[self.next], page
+            if gone in self.changed:
+                self.others.append(self.handed)
+                self.met.update(WayWritten=1, WayAhead=self.lsns[gone] > self.forced)
+                self.images[gone] = self.lsns[gone]
+                self.changed.remove(gone)
+            self.next = (self.next + 1) % len(self.frames)
+            self.met["WayMade"] += 1
+        self.lsns[page] = lsn
+        self.changed.add(page)
+
+    def ahead(self, records):
+        """How many pages would be ahead of the log if a restart behind a force that failed did not force what it reads."""
+        again = [Ways(len(self.frames), images, last, forced).repeat(records[:last]) for forced, last, images in self.forces]
+        return sum(ways.met["WayAhead"] for ways in again)
+
+
 class Failing:
     """A list whose device calls fail in turn."""
 
@@ -192,7 +254,7 @@ class Failing:
             drawing = Drawing(seed)
             self.sizes, self.lines = drawing.sizes, drawing.lines
         self.wanted = self.printed_by(self.lines + LAST)
-        self.random = random.Random(seed)
+        self.random, self.drawn = random.Random(seed), random.Random(seed)
         self.met = Counter({"PoolFull": self.wanted.count(b"refused 14 PoolFull")})
         self.goes_on = False  # some call of the list met the last failure
         self.fronts = {}  # what the list prints up to a line, by its place
@@ -253,6 +315,44 @@ class Failing:
                     return wrong
                 number += 1
         self.count_undoing()
+        return self.fault_of_calls()
+
+    def fault_of_calls(self):
+        """What is wrong with how many device calls the restart makes, or with what they left for the next one; None where nothing is."""
+        world = World(*self.sizes)
+        for line in self.lines + [OLD]:
+            world.happen(line)
+        store, records = world.store, world.store.devices.records
+        lsns, log, read = [page.images[-1] for page in store.devices.pages], len(records), store.reads_of_restart()
+        world.happen(b"restart")
+        ways = Ways(self.frames, lsns, log, log).repeat(records)
+        ways.force(len(records))
+        looks = 3 * (len(lsns) - 1 - self.frames) + 2 * sum(map(store.left, range(store.senders)))
+        looks += sum(record[0] == "write" for record in records[log:])
+        looked = sum(kinds == ["Read"] for _, kinds in self.stood) - read - ways.met["WayMade"]
+        others = [number for number, kinds in self.stood if kinds == ["Write"]]
+        if len(others) != len(ways.others) or not 0 <= looked <= looks:
+            counts = f"{len(others)} of its device calls are no reads, and not {len(ways.others)}"
+            return f"{self.name}, a restart: {counts}; it looks at {looked} pages, of {looks} at most"
+        self.met.update(ways.met, Looked=looked, MayLook=looks, WouldBeAhead=ways.ahead(records))
+        came = zip(others, ways.others, [log, *ways.others])
+        return next(filter(None, (self.fault_behind(number, handed) for number, handed, before in came if handed > before)), None)
+
+    def fault_behind(self, number, handed):
+        """What is wrong where this force of the restart fails, and the machine stops in the next one, behind its first force. That comes
+        as the pages are read, and leaves what was handed over."""
+        first, failed = sum(self.sizes) + 2, self.lines + [OLD, b"fail %d" % number, b"restart"]
+        for call in self.drawn.sample(range(first + 1, first + 31), STOPS):
+            stop = b"restart-stop %d 0 " % call + NEWEST
+            stopped, opened, content = self.told(failed + [stop, b"restart", b"content"])[-3:]
+            what = f"{self.name}, device call {number} of the restart fails, then {shown(stop)}"
+            is_open = stopped.startswith(b"restarted")
+            self.met["UnforcedStopped"] += not is_open
+            if not is_open and (not stopped.startswith(b"crashed ") or int(stopped.split(b" ")[1]) < handed):
+                return f"{what}: {shown(stopped)}, and not {handed} records"
+            wrong = differs([opened.split(b" ")[0], content], [b"running" if is_open else b"restarted", self.wanted[-1]], what)
+            if wrong:
+                return wrong
         return None
 
     def count_undoing(self):
@@ -329,7 +429,7 @@ def main():
     chosen = words.parse_args()
     program, seeds = built(chosen.program, "bench"), range(chosen.first, chosen.first + chosen.lists)
     with multiprocessing.Pool(os.cpu_count()) as pool:
-        jobs = [(program, ROW, FRAMES[0]), *((program, seed, frames) for seed in seeds for frames in FRAMES)]
+        jobs = [(program, ROW, FRAMES[0]), (program, AHEAD, FRAMES[0]), *((program, seed, frames) for seed in seeds for frames in FRAMES)]
         came = pool.map(tried, jobs, chunksize=1)
     faults, met = [fault for fault, _ in came if fault], sum((met for _, met in came), Counter())
     print("".join(f"{fault}\n" for fault in faults), end="")

@@ -2,7 +2,9 @@
 """Has each allocation of lists of happenings, and of scripts, fail in turn. The call is refused for it and nothing has changed:
 made again, it answers as where no allocation fails, and so does all behind it. A device in memory that cannot grow fails. That is a
 failure of its call, or of the handing over as the store crashes. A restart that it stopped is made again. A store is opened with as
-many allocations over a log in which many transactions ended as over one in which few did.
+many allocations over a log in which many transactions ended as over one in which few did. In few frames each allocation fails of a
+restart that undoes both by pages and by inverses. It is refused for memory, or for a device that cannot grow. The next one holds what
+the reference does, with a stop between that leaves nothing unforced, or without. It reports less, where the first made some durable.
 
     python3 tests/memory.py [--rqm PROGRAM] [--bench PROGRAM]
 
@@ -15,10 +17,13 @@ import re
 import subprocess
 import sys
 import tempfile
+from collections import Counter
 from concurrent.futures import ThreadPoolExecutor
+from types import SimpleNamespace
 
 from cases import MOST_SECONDS, built
 from damaged import BEGUN, base, formatted
+from frames import NEWEST, OLD, SYNCED, Drawing, printed_by
 from inspector import record
 from script_reference import Script
 from scripts import SCRIPTS
@@ -267,6 +272,71 @@ def check_openings(program, library):
     return right == 2 * len(ENDS)
 
 
+# Seeds of lists that leave something to be undone by pages and by inverses, and in how many frames they run.
+SEEDS, FRAMES = (1, 3, 5), 8
+
+# What comes between a restart that is refused and the next one: nothing, or a stop that leaves nothing unforced.
+BETWEEN = [], [b"restart-stop 1 0 " + SYNCED], [b"restart-stop 1 0 " + NEWEST]
+
+# What has to be met, and how often at least: the refusals, and how many operations and transactions the next restart undoes.
+MET = {"NoMemory": 450, "DiskWrite": 270, "1 1": 650, "0 1": 90}
+
+
+class Restarting:
+    """A drawn list that crashes, a restart in which an allocation fails, and what comes between it and the next one."""
+
+    def __init__(self, program, library, seed, between):
+        drawing = Drawing(seed)
+        words = [*map(str, drawing.sizes), str(FRAMES)]
+        door = SimpleNamespace(subcommand=["happenings"], words_of=lambda _: words)
+        self.name, self.lists = f"seed {seed}, then {between}", Lists(program, library, door, [], MOST_OF_LIST)
+        marks = {int(line.split(b" ")[2]) for line in drawing.lines if line.startswith(b"start-mark ")}
+        front, shown = [*drawing.lines, OLD], [*(b"tag %d" % client for client in sorted(marks)), b"content"]
+        self.lines = [*front, b"restart", *between, b"restart", *shown]
+        printed = printed_by([*front, b"restart", *shown], drawing.sizes, FRAMES)
+        self.front, self.opened, self.shown = printed[: len(front)], printed[len(front)], printed[len(front) + 1 :]
+        self.met = Counter()
+
+    def fault(self):
+        """What is wrong where each allocation fails in turn, from the last one on up to the list's own; None where nothing is."""
+        told, made = self.lists.run(self.name, self.lines, 0)
+        at, wrong, others = len(self.front), None, 0
+        if told[: at + 1] != [*self.front, self.opened] or told[-len(self.shown) :] != self.shown:
+            return f"{self.name}: {told[at:]}"
+        while not wrong and made and (told is None or told[:at] == self.front):
+            told, _ = self.lists.run(self.name, self.lines, made)
+            others += told is None
+            if told and told[:at] == self.front:
+                is_whole = told[at] == self.opened and told[-1] in (self.shown[-1], WANTING[0])
+                wrong = None if is_whole else self.fault_behind(told[at:], made)
+            made -= 1
+        return wrong or (f"{self.name}: {others} allocations are no call's" if others > MOST_OF_LIST else None)
+
+    def fault_behind(self, told, number):
+        """The same of what is told from a restart on that is refused: for memory, or for a device that cannot grow."""
+        shown = told[-len(self.shown) :]
+        refused, *stops, opened = told[: -len(shown)]
+        least = int(self.front[-1].removeprefix(b"crashed "))
+        is_left = all(said.startswith(b"crashed ") and int(said.split(b" ")[1]) >= least for said in stops)
+        is_refused = refused in (WANTING[1], b"not-opened 15 DiskWrite")
+        if not is_refused or not is_left or not opened.startswith(b"restarted ") or shown != self.shown:
+            return f"{self.name}, allocation {number}: the restart comes to {told}, and wanted is {self.shown}"
+        _, _, unfinished, lost, _ = opened.decode().split(" ")
+        self.met.update([refused.decode().split(" ")[2], f"{unfinished} {lost}"])
+        return None
+
+
+def check_few_frames(program, library):
+    """Whether restarts in few frames come to what they should where each of their allocations fails."""
+    lists = [Restarting(program, library, seed, between) for seed in SEEDS for between in BETWEEN]
+    with ThreadPoolExecutor(os.cpu_count()) as pool:
+        faults = [wrong for wrong in pool.map(Restarting.fault, lists) if wrong]
+    met = sum((each.met for each in lists), Counter())
+    print("".join(f"{wrong}\n" for wrong in faults), end="")
+    print(f"{len(lists) - len(faults)} of {len(lists)} restarts in {FRAMES} frames come to what they should; {dict(sorted(met.items()))}")
+    return not faults and all(met[kind] >= least for kind, least in MET.items())
+
+
 def check(lists):
     with ThreadPoolExecutor(os.cpu_count()) as pool:
         came = list(pool.map(lists.fault, lists.names))
@@ -291,6 +361,7 @@ def main():
             check(Lists(bench, library, happenings, lists, MOST_OF_LIST)),
             check(Lists(built(chosen.rqm, "rqm"), library, SCRIPTS, STEP_BY_STEP, MOST_OF_SCRIPT)),
             check_openings(bench, library),
+            check_few_frames(bench, library),
         ]
     sys.exit(0 if all(ran) else 1)
 
