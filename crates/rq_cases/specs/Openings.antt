@@ -1,5 +1,5 @@
 -- What a restart has checked, what it leaves of a log, and why and where it was refused: over the worked run.
-use Rattle.std.specs.Prelude.{◌≡◌, ◌≢◌, ℕ, ◌+◌, ◌%◌, ◌^◌, ◌<◌, ◌≤◌, List, None, [], ◌∷◌, min, ◌++◌, length, take, false, true}
+use Rattle.std.specs.Prelude.{◌≡◌, ◌≢◌, ℕ, ◌+◌, ◌-◌, ◌%◌, ◌^◌, ◌<◌, ◌≤◌, List, None, [], ◌∷◌, min, ◌++◌, length, take, false, true}
 use Rattle.rq_model.specs.declared.record.Record.{Record}
 use Rattle.rq_model.specs.declared.record.Record.TheVariants.{Commit, Restart}
 use Rattle.rq_model.specs.declared.refusal.Refusal.{Refusal}
@@ -140,8 +140,8 @@ module _ {P L : Type 0} (p : page_device.Ghosts P) (l : log_device.Ghosts L) whe
   pub record OpeningsAreJudged : Type 0 where
     -- the LSN of a page is that of the Restart record, or beyond
     pub page_beyond_the_log : (pages : P) (log : L) (count : ℕ) (s : OpenStore P L) (report : Report) (page : ℕ) → 1 ≤ page
-        → page < page_count s.state.sizes → length s.state.records ≤ lsn_of (image_at s.state.images page)
-        → 1 ≤ length s.state.records → Opens p l pages log count s report → ⊥
+        → page < page_count s.state.sizes → length s.state.records - 1 < lsn_of (image_at s.state.images page)
+        → Opens p l pages log count s report → ⊥
     -- a page of an honest device is older than it was read
     pub page_older_than_read : (pages : P) (log : L) (count : ℕ) (s : OpenStore P L) (report : Report) (page : ℕ) → p.honest s.pages
         → page < page_count s.state.sizes → lsn_of (image_at s.state.images page) < lsn_of (p.seen pages page)
