@@ -25,7 +25,7 @@ pub fn take_back(plan: &mut Plan)
     ensures writes { plan.new.writes ≡ plan.old.writes }
     ensures inverse { IsInverse plan.new }
 {
-    plan.deed = DeedBytes::joined(&[], &[]);
+    plan.deed = DeedBytes::empty();
     plan.reply = Replies::Undone;
 }
 

@@ -24,7 +24,7 @@ use rq_model::txn::Lsn;
 use rq_page::addr::Addr;
 use rq_page::layout::{CELLS_LIMIT, Layout, SLOTS};
 use rq_page::page::Page;
-use rq_record::{decode_deed, decode_told, encode_append, encode_close, encode_unlink_head};
+use rq_record::{decode_deed, decode_told, spell_append, spell_close, spell_unlink_head};
 use std::alloc::Global;
 use std::marker::Model;
 
@@ -157,7 +157,14 @@ impl ChainLevel {
         };
         self.reserve(layout, free);
         let directory = &group.directory;
-        plan.deed = encode_append(sender, directory.sent + 1, tag, directory.last_tag, body);
+        spell_append(
+            &mut plan.deed,
+            sender,
+            directory.sent + 1,
+            tag,
+            directory.last_tag,
+            body,
+        );
         plan.reply = Replies::Deed(Gist::Append { sender, tag });
         Ok(())
     }
@@ -195,7 +202,13 @@ impl ChainLevel {
             return Err(Refusal::NoMemory);
         };
         let sequence = group.directory.received + 1;
-        plan.deed = encode_unlink_head(sender, sequence, tag_in(head.bytes), body_in(head.bytes));
+        spell_unlink_head(
+            &mut plan.deed,
+            sender,
+            sequence,
+            tag_in(head.bytes),
+            body_in(head.bytes),
+        );
         plan.reply = Replies::Deed(Gist::UnlinkHead { sender });
         Ok(())
     }
@@ -213,7 +226,7 @@ impl ChainLevel {
         ensures err { IfErr result (λ r. RefusesOther sender (CanMark layout.now given.now sender true) r) }
     {
         put_closed(plan, layout, given, sender, true)?;
-        plan.deed = encode_close(sender);
+        spell_close(&mut plan.deed, sender);
         plan.reply = Replies::Deed(Gist::Close { sender });
         Ok(())
     }

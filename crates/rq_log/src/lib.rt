@@ -265,14 +265,14 @@ impl<L: LogDevice> Log<L> {
     }
 
     /// Adds the end of an operation, as `append` does, from where its deed stands.
-    pub fn append_op_end(&mut self, txn: Txn, operation: u64, level: u8, deed: &DeedBytes) -> Lsn
+    pub fn append_op_end(&mut self, txn: Txn, operation: u64, level: u8, deed: &[u8]) -> Lsn
         requires record { IsInRange (OpEnd txn operation level deed.now) }
         requires room { 30 + length deed.now ≤ self.old.reserved }
         requires count { length self.old.records < 2 ^ 64 - 1 }
         requires running { self.old.failed ≡ false }
         ensures { IsAppended self.old (OpEnd txn operation level deed.now) (30 + length deed.now) result self.new }
     {
-        let spelled = OP_END_BYTES + deed.as_slice().len();
+        let spelled = OP_END_BYTES + deed.len();
         self.reserved -= spelled;
         self.size = self.size.saturating_add(spelled as u64);
         put_op_end(&mut self.buffer, &txn, operation, level, deed);
@@ -281,7 +281,7 @@ impl<L: LogDevice> Log<L> {
             txn,
             operation,
             level,
-            deed: *deed,
+            deed: DeedBytes::new(deed).unwrap(),
         };
         shows_fits(&added);
         shows_size(&added);

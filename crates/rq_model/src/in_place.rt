@@ -1,5 +1,5 @@
 //! Byte strings of bounded length that need no memory of their own.
-ghost use Rattle.std.specs.Prelude.{◌≡◌, ◌≤◌, ◌↔◌, ◌+◌, ◌++◌, IfSome, IsSome, length};
+ghost use Rattle.std.specs.Prelude.{◌≡◌, ◌≤◌, ◌↔◌, ◌+◌, ◌++◌, [], IfSome, IsSome, length};
 
 use std::marker::Model;
 
@@ -40,18 +40,28 @@ impl<const N: usize> InPlace<N> {
         })
     }
 
-    /// A copy of the one's bytes and, behind them, the other's.
+    /// No byte.
     #[inline(always)]
-    pub fn joined(front: &[u8], rest: &[u8]) -> Self
+    pub fn empty() -> Self
+        ensures { result ≡ [] }
+    {
+        InPlace {
+            bytes: [0; N],
+            len: 0,
+        }
+    }
+
+    /// Has the one's bytes and, behind them, the other's, in place of what stands there.
+    pub fn join(&mut self, front: &[u8], rest: &[u8])
         requires { length front.now + length rest.now ≤ N }
-        ensures { result ≡ front.now ++ rest.now }
+        ensures { self.new ≡ front.now ++ rest.now }
     {
         let len = front.len() + rest.len();
-        let mut bytes = [0; N];
-        let all = &mut bytes[..];
+        let all = &mut self.bytes[..];
         all[..front.len()].copy_from_slice(front);
         all[front.len()..len].copy_from_slice(rest);
-        InPlace { bytes, len }
+        all[len..].fill(0);
+        self.len = len;
     }
 
     /// The bytes.

@@ -111,7 +111,7 @@ fn put_one(plan: &mut Plan, at: Addr, before: &Slot, after: &Slot) -> Result<(),
         before: *before,
         after: *after,
     };
-    plan.deed = DeedBytes::joined(&[], &[]);
+    plan.deed = DeedBytes::empty();
     plan.reply = Replies::Nothing;
     put_only(&mut plan.writes, write)
 }

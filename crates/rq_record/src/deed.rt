@@ -196,28 +196,33 @@ fn close_front(sender: u32) -> [u8; 5]
     front
 }
 
-/// The spelling of the deed of a send. It tells the deed, where the sequence is not 0.
+/// Has `deed` be the spelling of the deed of a send. It tells the deed, where the sequence is not 0.
 #[tactic(auto, unfolding(rq_bytes::specs::Number::number))]
-#[inline(always)]
-pub fn encode_append(sender: u32, sequence: u64, tag: u64, previous: u64, body: &[u8]) -> DeedBytes
+pub fn spell_append(
+    deed: &mut DeedBytes,
+    sender: u32,
+    sequence: u64,
+    tag: u64,
+    previous: u64,
+    body: &[u8],
+)
     requires { length body.now ≤ 216 }
-    ensures spelled { result ≡ spelled_deed (Append sender sequence tag previous body.now) }
-    ensures told { 1 ≤ sequence → deed_in result ≡ Some (Append sender sequence tag previous body.now) }
-    ensures size { (1 ≤ length result) × (length result ≤ 256) }
+    ensures spelled { deed.new ≡ spelled_deed (Append sender sequence tag previous body.now) }
+    ensures told { 1 ≤ sequence → deed_in deed.new ≡ Some (Append sender sequence tag previous body.now) }
+    ensures size { (1 ≤ length deed.new) × (length deed.new ≤ 256) }
 {
-    DeedBytes::joined(&append_front(sender, sequence, tag, previous), body)
+    deed.join(&append_front(sender, sequence, tag, previous), body);
 }
 
-/// The spelling of the deed of a receive. It tells the deed, where the sequence is not 0.
+/// Has `deed` be the spelling of the deed of a receive. It tells the deed, where the sequence is not 0.
 #[tactic(auto, unfolding(rq_bytes::specs::Number::number))]
-#[inline(always)]
-pub fn encode_unlink_head(sender: u32, sequence: u64, tag: u64, body: &[u8]) -> DeedBytes
+pub fn spell_unlink_head(deed: &mut DeedBytes, sender: u32, sequence: u64, tag: u64, body: &[u8])
     requires { length body.now ≤ 216 }
-    ensures spelled { result ≡ spelled_deed (UnlinkHead sender sequence tag body.now) }
-    ensures told { 1 ≤ sequence → deed_in result ≡ Some (UnlinkHead sender sequence tag body.now) }
-    ensures size { (1 ≤ length result) × (length result ≤ 256) }
+    ensures spelled { deed.new ≡ spelled_deed (UnlinkHead sender sequence tag body.now) }
+    ensures told { 1 ≤ sequence → deed_in deed.new ≡ Some (UnlinkHead sender sequence tag body.now) }
+    ensures size { (1 ≤ length deed.new) × (length deed.new ≤ 256) }
 {
-    DeedBytes::joined(&unlink_head_front(sender, sequence, tag), body)
+    deed.join(&unlink_head_front(sender, sequence, tag), body);
 }
 
 #[tactic(auto, unfolding(rq_bytes::specs::Number::number))]
@@ -232,24 +237,22 @@ fn mark_bytes(client: u32, tag: u64, previous: u64) -> [u8; 21]
     bytes
 }
 
-/// The spelling of the deed of a mark. It tells the deed.
+/// Has `deed` be the spelling of the deed of a mark. It tells the deed.
 #[tactic(auto, unfolding(rq_bytes::specs::Number::number))]
-#[inline(always)]
-pub fn encode_mark(client: u32, tag: u64, previous: u64) -> DeedBytes
-    ensures spelled { result ≡ spelled_deed (Mark client tag previous) }
-    ensures told { mark_in result ≡ Some (Mark client tag previous) }
-    ensures size { length result ≡ 21 }
+pub fn spell_mark(deed: &mut DeedBytes, client: u32, tag: u64, previous: u64)
+    ensures spelled { deed.new ≡ spelled_deed (Mark client tag previous) }
+    ensures told { mark_in deed.new ≡ Some (Mark client tag previous) }
+    ensures size { length deed.new ≡ 21 }
 {
-    DeedBytes::joined(&mark_bytes(client, tag, previous), &[])
+    deed.join(&mark_bytes(client, tag, previous), &[]);
 }
 
-/// The spelling of the deed of a close. It tells the deed.
+/// Has `deed` be the spelling of the deed of a close. It tells the deed.
 #[tactic(auto, unfolding(rq_bytes::specs::Number::number))]
-#[inline(always)]
-pub fn encode_close(sender: u32) -> DeedBytes
-    ensures spelled { result ≡ spelled_deed (Close sender) }
-    ensures told { deed_in result ≡ Some (Close sender) }
-    ensures size { (1 ≤ length result) × (length result ≤ 256) }
+pub fn spell_close(deed: &mut DeedBytes, sender: u32)
+    ensures spelled { deed.new ≡ spelled_deed (Close sender) }
+    ensures told { deed_in deed.new ≡ Some (Close sender) }
+    ensures size { (1 ≤ length deed.new) × (length deed.new ≤ 256) }
 {
-    DeedBytes::joined(&close_front(sender), &[])
+    deed.join(&close_front(sender), &[]);
 }

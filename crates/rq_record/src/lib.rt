@@ -8,8 +8,7 @@ mod step;
 mod writing;
 
 pub use deed::{
-    decode_deed, decode_mark, decode_told, encode_append, encode_close, encode_mark,
-    encode_unlink_head,
+    decode_deed, decode_mark, decode_told, spell_append, spell_close, spell_mark, spell_unlink_head,
 };
 pub use laws::{deeds_are_told, framed, lengths, one_deed, one_spelling};
 pub use reading::{decode, decode_into};

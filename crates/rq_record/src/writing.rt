@@ -209,13 +209,13 @@ fn put_page_undo(
 
 /// Puts an OpEnd at the end, in room that is reserved.
 #[tactic(auto, using(crate::proofs::Spelled::spellings))]
-pub fn put_op_end(out: &mut Vec<u8>, txn: &Txn, operation: u64, level: u8, deed: &DeedBytes)
-    requires { vec_len out.old + (30 + length deed.now) ≤ vec_capacity out.old }
+pub fn put_op_end(out: &mut Vec<u8>, txn: &Txn, operation: u64, level: u8, deed: &[u8])
+    requires short { length deed.now ≤ 256 }
+    requires room { vec_len out.old + (30 + length deed.now) ≤ vec_capacity out.old }
     ensures items { out.new.items
         ≡ out.old.items ++ spelling (Record.OpEnd txn.now operation level deed.now) }
     ensures capacity { vec_capacity out.old ≤ vec_capacity out.new }
 {
-    let deed = deed.as_slice();
     put(
         out,
         &front_of_op_end(26 + deed.len() as u32, txn, operation, level),
@@ -352,7 +352,7 @@ fn put_record(out: &mut Vec<u8>, record: &Record)
             operation,
             level,
             deed,
-        } => put_op_end(out, txn, *operation, *level, deed),
+        } => put_op_end(out, txn, *operation, *level, deed.as_slice()),
         Record::OpVoid { txn, operation } => put_op_void(out, txn, *operation),
         Record::CompEnd {
             txn,

@@ -16,7 +16,7 @@ use rq_level::{Gist, Plan, Replies, SlotWrite, Slots, put_only};
 use rq_model::refusal::{Damage, NoMemory, Refusal};
 use rq_page::client::ClientSlot;
 use rq_page::layout::{Layout, SLOTS};
-use rq_record::encode_mark;
+use rq_record::spell_mark;
 
 /// Plans a mark.
 pub(crate) fn mark(
@@ -39,7 +39,7 @@ pub(crate) fn mark(
     }
     match rewrite(&mut plan.writes, layout, &held, &counted(&held, tag)) {
         Ok(()) => {
-            plan.deed = encode_mark(client, tag, held.tag);
+            spell_mark(&mut plan.deed, client, tag, held.tag);
             plan.reply = Replies::Deed(Gist::Mark { client, tag });
             Ok(())
         }

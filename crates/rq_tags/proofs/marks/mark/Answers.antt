@@ -8,4 +8,4 @@ returns-in_default-clause-err c = (c.damage_of.ensures, λ can. c.in_default.ens
 pub returns-in-Ok-clause-ok : goal.returns-in-Ok-clause-ok
 returns-in-Ok-clause-ok c k =
     is_tag_plan c.args.layout.now k c.args.given.now c.args.client c.args.tag _ c.in-Some.held c.counted.result c.in-Some.ensures.some c.in-Ok.ensures.writes c.in-Ok.ensures.slots
-    (omega (arith, c.if-held-gt-MARK_LIMIT.false)) c.counted.ensures.held c.encode_mark-plan.ensures.spelled c.encode_mark-plan.ensures.told refl
+    (omega (arith, c.if-held-gt-MARK_LIMIT.false)) c.counted.ensures.held c.spell_mark.ensures.spelled c.spell_mark.ensures.told refl

@@ -28,5 +28,5 @@ returns-clause-ok c =
     is_received c.args.layout.now c.args.self.now c.args.given.now [] c.args.sender 0 [] _ _ c.in-Some.group
     c.in-Some-cell_given.head c.in-Some-beside_given.next _ _ (omega (arith, c.if-sender-senders.false, c.senders.ensures.number)) c.in-Some.ensures.group.1 c.in-Some.ensures.holds (omega (arith, c.if-group.false))
     (let pos : 0 < c.head_of.result = positive c.head_of.result (λ e. let no : false ≡ true = sym c.if-is_none.false ∙ c.is_none.ensures.1 e in cc) in omega (arith, pos, c.head_of.ensures, c.head_of-2.ensures)) c.head_of-2.ensures c.in-Some-cell_given.ensures.holds c.next_in.ensures c.in-Some-beside_given.ensures.beside c.in-Ok.ensures.writes c.in-Ok.ensures.slots
-    (c.encode_unlink_head-plan.ensures.spelled ∙ same_deed spelled_deed c.args.sender (c.in-Some.group.directory.received + 1) c.tag_in.ensures c.body_in.ensures.body)
-    (c.encode_unlink_head-plan.ensures.told (omega arith) ∙ same_deed (λ d. Some d) c.args.sender (c.in-Some.group.directory.received + 1) c.tag_in.ensures c.body_in.ensures.body) refl refl
+    (c.spell_unlink_head.ensures.spelled ∙ same_deed spelled_deed c.args.sender (c.in-Some.group.directory.received + 1) c.tag_in.ensures c.body_in.ensures.body)
+    (c.spell_unlink_head.ensures.told (omega arith) ∙ same_deed (λ d. Some d) c.args.sender (c.in-Some.group.directory.received + 1) c.tag_in.ensures c.body_in.ensures.body) refl refl

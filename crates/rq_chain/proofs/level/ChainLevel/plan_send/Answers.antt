@@ -8,5 +8,5 @@ returns-clause-ok c =
     is_sent c.args.layout.now c.args.self.now c.args.given.now c.args.latched.now.pages c.args.sender c.args.tag c.args.body.now _ _ c.in-Some.group
     c.in-Some-beside_given.tail c.in-Some-lowest.free _ (omega (arith, c.if-sender-senders.false, c.senders.ensures.number)) c.in-Some.ensures.group.1 c.in-Some.ensures.holds (omega (arith, c.if-group-gt-SENT_LIMIT.false))
     c.tail_of.ensures c.in-Some-beside_given.ensures.beside c.in-Some-lowest.ensures.lowest c.in-Ok.ensures.writes c.in-Ok.ensures.slots
-    c.encode_append-plan.ensures.spelled (c.encode_append-plan.ensures.told (omega arith)) refl
+    c.spell_append.ensures.spelled (c.spell_append.ensures.told (omega arith)) refl
     (c.reserve.ensures ∙ ap (λ k. reserved_at c.args.layout.now k c.in-Some-lowest.free) c.lowest.ensures.kept)
