@@ -92,7 +92,7 @@ impl Plan {
     {
         Plan {
             writes: Vec::new(alloc),
-            deed: DeedBytes::joined(&[], &[]),
+            deed: DeedBytes::empty(),
             reply: Replies::Nothing,
         }
     }

@@ -1,9 +1,8 @@
 -- The slots that a level wants are gathered, and come to an end.
-use Rattle.std.proofs.Common.{◌≡◌, ℕ, ◌-◌, ◌/◌, ◌%◌, ◌<◌, ◌++◌, List, [], ◌∷◌, false, length, Option, Some, None, Result, Ok, Err, refl, sym, ◌∙◌, ap, subst, inl, inr, arith}
+use Rattle.std.proofs.Common.{◌≡◌, ℕ, ◌-◌, ◌/◌, ◌%◌, ◌<◌, ◌++◌, List, [], ◌∷◌, false, length, Option, Some, None, Result, Ok, Err, sym, ◌∙◌, ap, subst, arith}
 use Rattle.std.proofs.lemmas.List.{append_assoc, append-nil, length-append}
 use Rattle.std.proofs.lemmas.List.Elements.{All-append, All-cons}
 use Rattle.rq_model.specs.declared.refusal.Refusal.{Refusal}
-use Rattle.rq_model.specs.declared.refusal.Refusal.TheVariants as why
 use Rattle.rq_page.specs.Sizes.{Sizes}
 use Rattle.rq_page.specs.Slots.{IsSlotOf, held_in}
 use Rattle.rq_views.specs.Stored.{IsStoreSlot, slot_at}
@@ -36,9 +35,6 @@ wish_slot (Some b) answer a e slot = let is : wants.Slot b ≡ wants.Slot a = sy
 more_wanted : (want : List Given → Option ℕ) (front given : List Given) (g : Given) → AreWanted want front given → want (front ++ given) ≡ Some g.at → AreWanted want front (given ++ g ∷ [])
 more_wanted want front [] g w e = (ap want (sym (append-nil front)) ∙ e, tt)
 more_wanted want front (f ∷ given) g w e = (w.0, more_wanted want (front ++ f ∷ []) given g w.1 (ap want (append_assoc front (f ∷ []) given) ∙ e))
-
-pub none_gathered : (s : State) (want : Wants) (job : Job) → HasGathered s want job []
-none_gathered s want job = record { wanted = tt; from = slots_gathered.none_given s; gathered = slots_gathered.none_gathered s }
 
 one_more : (s : State) (want : Wants) (job : Job) (given now : List Given) (a : ℕ) (bytes : List ℕ) → now ≡ with_slot given a bytes → want job given ≡ Some a → HasGathered s want job given → IsStoreSlot s.sizes a → IsSlotOf s.sizes (a / 16) (a % 16) bytes
     → slots_now s a ≡ held_in s.sizes (a / 16) bytes → latched_in s.rows (a / 16) ≡ false → HasGathered s want job now
@@ -73,31 +69,24 @@ fewer_left levels n job z images a given now m wanted =
 -- ---- answers
 
 module _ (s : State) (want : Wants) (job : Job) (May : List Given → Result Plan Refusal → Type 0) where
-  lacks : (o : Option ℕ) (P : Result Plan Refusal → Type 0) → ComesFrom s o P (Err why.NoMemory)
-  lacks None P = inr refl
-  lacks (Some a) P = tt
-
-  pub no_memory : (given : List Given) → HasGathered s want job given → IsAnswered s want job May (Err why.NoMemory)
-  no_memory given h = record { given = given; has = h; comes = lacks (want job given) (May given) }
-
   -- it wants a slot that is not given to it
   pub withheld : (given : List Given) (a : ℕ) (r : Refusal) → HasGathered s want job given → want job given ≡ Some a → IsWithheld s a r → IsAnswered s want job May (Err r)
   withheld given a r h next kept = record { given = given; has = h; comes = subst (λ o. ComesFrom s o (May given) (Err r)) (sym next) kept }
 
   -- all that it wants is given to it
   pub answered : (given : List Given) (answer : Result Plan Refusal) → HasGathered s want job given → want job given ≡ None → May given answer → IsAnswered s want job May answer
-  answered given answer h next may = record { given = given; has = h; comes = subst (λ o. ComesFrom s o (May given) answer) (sym next) (inl may) }
+  answered given answer h next may = record { given = given; has = h; comes = subst (λ o. ComesFrom s o (May given) answer) (sym next) may }
 
   -- a plan is the level's, from slots that it was given
   pub given_to : (p : Plan) → IsAnswered s want job May (Ok p) → (given : List Given) × May given (Ok p)
   given_to p h = (h.given, by (want job h.given) h.comes) where
     by : (o : Option ℕ) → ComesFrom s o (May h.given) (Ok p) → May h.given (Ok p)
-    by None c = elim c [ inl may ↦ may | inr e ↦ absurd (let no : ◌≡◌ {A = Result Plan Refusal} (Ok p) (Err why.NoMemory) = e in cc) ]
+    by None c = c
     by (Some a) c = absurd c
 
 -- what was not answered from any slots
 pub not_from : (s : State) (want : Wants) (job : Job) (May : List Given → Result Plan Refusal → Type 0) (r : Refusal) → IsAnswered s want job (λ given answer. ⊥) (Err r) → IsAnswered s want job May (Err r)
 not_from s want job May r h = record { given = h.given; has = h.has; comes = weaker (want job h.given) h.comes } where
   weaker : (o : Option ℕ) → ComesFrom s o (λ answer. ⊥) (Err r) → ComesFrom s o (May h.given) (Err r)
-  weaker None c = elim c [ inl never ↦ absurd never | inr e ↦ inr e ]
+  weaker None c = absurd c
   weaker (Some a) c = c

@@ -287,7 +287,7 @@ module _ (s : State) (want : Wants) (job : Job) (a : Asked) (wants : WantsFor s 
     w = wants h.given h.has.from
 
     by : (o : Option ℕ) → want job h.given ≡ o → (answer : Result Plan Refusal) → ComesFrom s o (May h.given) answer → P answer
-    by None e answer c = elim c [ inl may ↦ all h.given answer (record { gathered = h.has.gathered; all = w.none e }) may | inr is ↦ subst P (sym is) lacks ]
+    by None e answer may = all h.given answer (record { gathered = h.has.gathered; all = w.none e }) may
     by (Some b) e (Ok p) c = absurd c
     by (Some b) e (Err why.NoMemory) c = lacks
     by (Some b) e (Err why.Latched) c = held (held_up s a (w.latched b e c))

@@ -68,9 +68,9 @@ pub record IsGivenMore (z : Sizes) (images : List (List ℕ)) (a : ℕ) (old new
   pub slot : IsSlotOf z (a / 16) (a % 16) (slot_at images a)
   pub more : new ≡ with_slot old a (slot_at images a)
 
--- Where it wants no other slot, the answer is one that it may give, or memory is wanting. Else there is no plan.
+-- Where it wants no other slot, the answer is one that it may give. Else there is no plan.
 abbrev pub ComesFrom : State → (wanted : Option ℕ) → (May : Result Plan Refusal → Type 0) → Result Plan Refusal → Type 0
-ComesFrom s None May answer = May answer ⊎ (answer ≡ Err why.NoMemory)
+ComesFrom s None May answer = May answer
 ComesFrom s (Some a) May (Ok p) = ⊥
 ComesFrom s (Some a) May (Err r) = IsWithheld s a r
 

@@ -144,7 +144,6 @@ impl<B: Level> Planner<B> {
     /// also `Damaged`; `DiskRead`.
     pub fn plan_inverse<P: PageDevice>(
         &mut self,
-        alloc: Global,
         pages: &mut Pages<P>,
         transactions: &Transactions,
         told: &Record,
@@ -168,7 +167,6 @@ impl<B: Level> Planner<B> {
             → IsJudgedBack pages.old.sizes (slots_in pages.old.sizes pages.old.images) d (with_plan plan.new result) }
     {
         planning::plan_inverse(
-            alloc,
             pages,
             transactions,
             &mut self.levels,
@@ -206,7 +204,7 @@ impl<B: Level> Planner<B> {
         }
         let nobody = Transactions::new(alloc);
         let mut plan = Plan::new(alloc);
-        match self.plan_inverse(alloc, pages, &nobody, told, &mut plan) {
+        match self.plan_inverse(pages, &nobody, told, &mut plan) {
             Ok(()) => Ok(plan.writes),
             Err(refusal) => Err(refused_alone(refusal)),
         }
@@ -235,14 +233,14 @@ impl<B: Level> Planner<B> {
     /// memory.
     #[tactic(auto, using(crate::proofs::Told::none_answers))]
     #[inline(always)]
-    pub fn outcome(&self, level: u8, deed: &DeedBytes) -> Option<Outcome>
+    pub fn outcome(&self, level: u8, deed: &[u8]) -> Option<Outcome>
         ensures { result ≡ option_map answer_of (deed_by level deed.now) }
     {
         let level = level as usize;
         if level >= self.levels.len() {
             return None;
         }
-        self.levels.outcome(level, deed.as_slice())
+        self.levels.outcome(level, deed)
     }
 
     /// The write that undoes what a PageOp wrote.

@@ -18,7 +18,6 @@ use rq_model::record::Record;
 use rq_model::refusal::Refusal;
 use rq_pool::Pages;
 use rq_txn::Transactions;
-use std::alloc::Global;
 
 /// Has the level of an operation plan it from the slots as they are, which are gathered into `slots`. What it chose is given
 /// back.
@@ -61,7 +60,6 @@ pub(crate) fn plan<P: PageDevice, B: Level>(
 /// # Errors
 /// As those of `plan`.
 pub(crate) fn plan_inverse<P: PageDevice, B: Level>(
-    alloc: Global,
     pages: &mut Pages<P>,
     transactions: &Transactions,
     levels: &mut Levels<B>,
@@ -81,9 +79,7 @@ pub(crate) fn plan_inverse<P: PageDevice, B: Level>(
     ensures answered { ReadsTruly P.PageDevice pages.old result pages.new
         → IsAnsweredBack (known_from pages.old transactions.now) levels.old told.now (with_plan plan.new result) }
 {
-    let Ok(op) = Op::back(alloc, told) else {
-        return Err(Refusal::NoMemory);
-    };
+    let op = Op::back(told);
     match gather(pages, transactions, levels, &op, slots) {
         Ok(()) => {
             let answer = levels.undo(
