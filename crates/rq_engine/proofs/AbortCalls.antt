@@ -1,10 +1,13 @@
 -- What the calls of an abort answer, from what their bodies found and made.
-use Rattle.std.proofs.Common.{◌≡◌, ℕ, ◌+◌, ◌-◌, ◌<◌, ◌&&◌, ◌||◌, ◌++◌, List, [], ◌∷◌, length, refl, sym, ◌∙◌, ap, subst, Bool, true, false, not, Option, Some, None, IfSome, option_map, arith, inl, inr}
+use Rattle.std.proofs.Common.{◌≡◌, ℕ, ◌+◌, ◌-◌, ◌<◌, ◌≤◌, ◌&&◌, ◌||◌, ◌++◌, List, [], ◌∷◌, length, refl, sym, ◌∙◌, ap, subst, Bool, true, false, not, Option, Some, None, IfSome, option_map, arith, inl, inr}
 use Rattle.std.proofs.lemmas.Bool.{cases_Bool, false≢true, or_right}
 use Rattle.std.proofs.lemmas.Option.{same_Some}
 use Rattle.rq_model.specs.declared.txn.Txn.{Txn}
 use Rattle.rq_model.specs.declared.txn.Sub.{Sub}
+use Rattle.rq_model.specs.Commits.{op_of}
+use Rattle.rq_model.specs.Content.{said}
 use Rattle.rq_model.specs.declared.record.Deed.{Deed}
+use Rattle.rq_model.specs.declared.record.Deed.TheVariants.{Append, Close, Mark, UnlinkHead}
 use Rattle.rq_model.specs.declared.record.Record.{Record}
 use Rattle.rq_model.specs.declared.record.Record.TheVariants.{AbortEnd}
 use Rattle.rq_model.specs.declared.refusal.Refusal.TheVariants as why
@@ -18,9 +21,9 @@ use Rattle.rq_model.proofs.Lists.{same_is}
 use Rattle.rq_views.specs.Claims.{appends_of, takes_of}
 use Rattle.rq_views.specs.Plans.{deed_sender}
 use Rattle.rq_views.specs.Stored.{slots_in}
-use Rattle.rq_txn.specs.declared.Aim.TheVariants.{Undoing}
+use Rattle.rq_txn.specs.declared.Aim.TheVariants.{Doing, Undoing}
 use Rattle.rq_txn.specs.declared.Finished.{Finished}
-use Rattle.rq_txn.specs.Rows.{AreDistinct, Row, Under, change_row, found_row, row_aborting, row_started, row_taken_back, row_undone, without_row}
+use Rattle.rq_txn.specs.Rows.{AreDistinct, Row, Under, change_row, deed_of, finished_at, found_row, row_aborting, row_ended, row_finished, row_started, row_taken_back, row_undone, without_row}
 use Rattle.rq_txn.proofs.Finding.{change_none}
 use Rattle.rq_groups.specs.Ends.{HeldEnds, released}
 use Rattle.rq_store.specs.State.{State, job_under, ledger_of, op_done, open_of, phase_of, size_of}
@@ -84,6 +87,13 @@ last_some (g ∷ fs) f e = at g fs f e where
 -- what is found newest in the state inside, is so of the state
 pub is_newest_of : (s inside : State) (t : Txn) (o found : Option Finished) → inside ≡ s → o ≡ newest_of inside t → o ≡ found → newest_of s t ≡ found
 is_newest_of s inside t o found same e is = ap (λ (x : State). newest_of x t) (sym same) ∙ sym e ∙ is
+
+-- what takes a deed back is counted as a few records
+pub cost_few : (d : Deed) → undo_cost (Some (op_of (said d))) ≤ 4
+cost_few (Append sender sequence tag previous body) = omega arith
+cost_few (UnlinkHead sender sequence tag body) = omega arith
+cost_few (Close sender) = omega arith
+cost_few (Mark client tag previous) = omega arith
 
 -- what is so of all is so of the last
 pub last_kept : (P : Finished → Type 0) (fs : List Finished) (o : Option Finished) → last fs ≡ o → ((f : Finished) → In f fs → P f) → IfSome o P
@@ -252,6 +262,15 @@ same_change t f g (x ∷ rows) r d e same = elim (cases_Bool (same_txn x.txn t))
       rw y (ap (λ z. z ∷ change_row t f rows) here ∙ ap (λ l. g x ∷ l) (change_none t f rows none ∙ sym (change_none t g rows none)))
   | inr n ↦ rw n (ap (λ l. x ∷ l) (same_change t f g rows r d.1 (rw n at e) same))
 ]
+
+-- its deed is finished
+pub ended_rows : (s : State) (f : Bool) (o res : ℕ) → IsConsistent s f o res → (sub : Sub) (d : Deed) (lsn : ℕ) → IsUnderWay s sub (AllMade (Doing d)) → change_row sub.txn (row_ended lsn) s.rows ≡ change_row sub.txn (row_finished (record { lsn = lsn; number = sub.number; deed = d })) s.rows
+ended_rows s f o res k sub d lsn h =
+    let g = going_of s sub (AllMade (Doing d)) h in
+    same_change sub.txn (row_ended lsn) (row_finished (record { lsn = lsn; number = sub.number; deed = d })) s.rows g.row k.distinct g.found
+    (ap (λ o. record g.row { finished = g.row.finished ++ finished_at lsn o; under = None }) g.is
+    ∙ ap (λ n. row_finished (record { lsn = lsn; number = n; deed = deed_of g.under.aim }) g.row) g.number
+    ∙ ap (λ a. row_finished (record { lsn = lsn; number = sub.number; deed = deed_of a }) g.row) g.so.1)
 
 pub undone_done : (s new : State) (sub : Sub) (lsn : ℕ) (d : Deed) → s.failed ≡ false → (takes_of d ≡ 1 → deed_sender d < length s.waiting) → IsUnderWay s sub (AllMade (Undoing lsn d))
     → new ≡ record s { rows = change_row sub.txn row_taken_back s.rows; records = comp_end sub.txn sub.number lsn ∷ s.records; cells_in_use = s.cells_in_use - appends_of d; waiting = with_taken d s.waiting }

@@ -23,11 +23,12 @@ use Rattle.rq_model.specs.Legal.{OnFound}
 use Rattle.rq_model.specs.Tests.{has_under, is_aborting, steps_left, log_full, tests, first_of, NoneHolds, Passes, ready_tests, any_busy, below}
 use Rattle.rq_model.specs.Replay.Reply.{Gave_lsn, Gave_commit, Gave_ready, Gave_client_tag, Gave_content, Gave_tag}
 use Rattle.rq_page.specs.Sizes.{Sizes, client_count, sender_count}
+use Rattle.rq_level.specs.declared.writes.Gist.{Gist}
 use Rattle.rq_level.specs.declared.writes.SlotWrite.{SlotWrite}
 use Rattle.rq_level.specs.Writes.{IsSlotWrite, AreSlotWrites, answer_of}
 use Rattle.rq_txn.specs.declared.Finished.{Finished}
 use Rattle.rq_txn.specs.declared.Aim.{Aim}
-use Rattle.rq_txn.specs.declared.Aim.TheVariants.{Doing}
+use Rattle.rq_txn.specs.declared.Aim.TheVariants.{Doing, Undoing}
 use Rattle.rq_txn.specs.Rows.{Row, Under, deed_of, found_row, finished_of, any_under, change_row, without_row, row_stepped, row_finished, row_taken_back}
 use Rattle.rq_groups.specs.Sent.{sent_count, sent_tag}
 use Rattle.rq_model.specs.Content.{tag_after}
@@ -52,8 +53,10 @@ use Rattle.rq_engine.proofs.Standing.{going_at, refused_steps, step_steps, finis
 use Rattle.rq_engine.specs.Earlier.{on}
 use Rattle.rq_engine.specs.Invariant.{EndFits, IsConsistent, end_bytes, end_of, room_one, room_of}
 use Rattle.rq_engine.proofs.Waits.{AreDeedsOf, waits-with_sends, waits-without_taken}
+use Rattle.rq_engine.specs.Lists.{FinishSays, IsFinished}
 use Rattle.rq_engine.specs.Says.{outcome_of}
-use Rattle.rq_engine.specs.Answers.{Refuses, OnUnder, IsUnderWay, IsNotUnderWay, NotFound, IsOther, Idle, CannotFinish, IsMade, HasNothingUnderWay}
+use Rattle.rq_engine.specs.declared.operations.Ending.TheVariants.{Deed as Ends, Inverse}
+use Rattle.rq_engine.specs.Answers.{Refuses, OnUnder, IsDoing, IsUnderWay, IsNotUnderWay, NotFound, IsOther, Idle, CannotFinish, IsMade, HasNothingUnderWay, ending_of}
 use Rattle.rq_engine.proofs.Keeping.{kept_at, under_at, kept_stepped, kept_finished, kept_undone, kept_committed}
 use Rattle.rq_content.specs.Read.{IsNoDamage}
 use Rattle.rq_engine.proofs.Refusals.{refuse, refuse_failed, found_of, found_some, found_none, no_memory, not_full}
@@ -200,6 +203,60 @@ found_in_row (Some r) n v P p h = found_under r r.under n v P p h
 pub under_is : (s t : State) → s ≡ t → (sub : Sub) (v : Under) → IsUnderWay s sub (λ r u. u ≡ v) → (P : Under → Type 0) → P v → IsUnderWay t sub (λ r u. P u)
 under_is s t same sub v h P p = subst (λ (x : State). IsUnderWay x sub (λ r u. P u)) same (found_in_row (found_row sub.txn s.rows) sub.number v P p h)
 
+-- what is so of the operation by two reasons
+pub under_both : (s : State) (sub : Sub) (P Q R : Row → Under → Type 0) → ((r : Row) (u : Under) → P r u → Q r u → R r u) → IsUnderWay s sub P → IsUnderWay s sub Q → IsUnderWay s sub R
+under_both s sub P Q R both h k =
+    let g = going_of s sub P h in
+    rw (g.found, g.is) (g.number, both g.row g.under g.so (rw (g.found, g.is) at k).1)
+
+pub under_any : (s : State) (f : Bool) (o res : ℕ) (k : IsConsistent s f o res) (sub : Sub) (P : Row → Under → Type 0) → IsUnderWay s sub P → IsUnderWay s sub (λ r u. Unit {0})
+under_any s f o res k sub P h = under_both s sub P P (λ r u. Unit {0}) (λ r u a b. tt) h h
+
+doing_deed : (a : Aim) (d : Deed) → IsDoing a → deed_of a ≡ d → a ≡ Doing d
+doing_deed (Doing e) d h k = ap Doing k
+doing_deed (Undoing lsn e) d h k = absurd h
+
+-- the deed that it is there to do
+pub doing_is : (s : State) (f : Bool) (o res : ℕ) (k : IsConsistent s f o res) (sub : Sub) (d : Deed) → IsUnderWay s sub (λ r u. (length u.writes ≤ u.made) × IsDoing u.aim) → IsUnderWay s sub (λ r u. deed_of u.aim ≡ d) → IsUnderWay s sub (AllMade (Doing d))
+doing_is s f o res k sub d h e = under_both s sub _ (λ r u. deed_of u.aim ≡ d) (AllMade (Doing d)) (λ r u a b. (a.0, doing_deed u.aim d a.1 b)) h e
+
+undoing_deed : (a : Aim) (lsn : ℕ) (d : Deed) → ending_of a ≡ Inverse lsn → deed_of a ≡ d → a ≡ Undoing lsn d
+undoing_deed (Doing e) lsn d h k = cc
+undoing_deed (Undoing n e) lsn d h k = cc
+
+-- the deed that it is there to take back
+pub undoing_is : (s : State) (f : Bool) (o res : ℕ) (k : IsConsistent s f o res) (sub : Sub) (lsn : ℕ) (d : Deed) → IsUnderWay s sub (λ r u. (length u.writes ≤ u.made) × (ending_of u.aim ≡ Inverse lsn)) → IsUnderWay s sub (λ r u. deed_of u.aim ≡ d) → IsUnderWay s sub (AllMade (Undoing lsn d))
+undoing_is s f o res k sub lsn d h e = under_both s sub _ (λ r u. deed_of u.aim ≡ d) (AllMade (Undoing lsn d)) (λ r u a b. (a.0, undoing_deed u.aim lsn d a.1 b)) h e
+
+-- an operation has one deed
+pub same_deed : (s : State) (f : Bool) (o res : ℕ) (k : IsConsistent s f o res) (sub : Sub) (aim : Aim) (d : Deed) → IsUnderWay s sub (λ r u. u.aim ≡ aim) → IsUnderWay s sub (λ r u. deed_of u.aim ≡ d) → deed_of aim ≡ d
+same_deed s f o res k sub aim d h e = let g = going_of s sub _ (under_both s sub (λ r u. u.aim ≡ aim) (λ r u. deed_of u.aim ≡ d) (λ r u. deed_of aim ≡ d) (λ r u a b. ap deed_of (sym a) ∙ b) h e) in g.so
+
+pub only_aim : (s : State) (sub : Sub) (aim : Aim) → IsUnderWay s sub (AllMade aim) → IsUnderWay s sub (λ r u. u.aim ≡ aim)
+only_aim s sub aim h = under_both s sub (AllMade aim) (AllMade aim) (λ r u. u.aim ≡ aim) (λ r u a b. a.1) h h
+
+aim_doing : (a : Aim) (gist : Gist) → ending_of a ≡ Ends gist → (d : Deed) × (a ≡ Doing d)
+aim_doing (Doing d) gist h = (d, refl)
+aim_doing (Undoing lsn d) gist h = cc
+
+-- there is a deed that it is there to do
+pub doing_of : (s : State) (sub : Sub) (gist : Gist) → IsUnderWay s sub (λ r u. (length u.writes ≤ u.made) × (ending_of u.aim ≡ Ends gist)) → (d : Deed) × IsUnderWay s sub (AllMade (Doing d))
+doing_of s sub gist h =
+    let g = going_of s sub _ h in
+    let e = aim_doing g.under.aim gist g.so.1 in
+    (e.0, rw (g.found, g.is) (g.number, (g.so.0, e.1)))
+
+aim_undoing : (a : Aim) (lsn : ℕ) → ending_of a ≡ Inverse lsn → (d : Deed) × (a ≡ Undoing lsn d)
+aim_undoing (Doing d) lsn h = cc
+aim_undoing (Undoing n d) lsn h = (d, undoing_deed (Undoing n d) lsn d h refl)
+
+-- there is one that it is there to take back
+pub undoing_of : (s : State) (sub : Sub) (lsn : ℕ) → IsUnderWay s sub (λ r u. (length u.writes ≤ u.made) × (ending_of u.aim ≡ Inverse lsn)) → (d : Deed) × IsUnderWay s sub (AllMade (Undoing lsn d))
+undoing_of s sub lsn h =
+    let g = going_of s sub _ h in
+    let e = aim_undoing g.under.aim lsn g.so.1 in
+    (e.0, rw (g.found, g.is) (g.number, (g.so.0, e.1)))
+
 -- one more write
 pub step_done : (s new : State) (sub : Sub) (w : SlotWrite) (lsn : ℕ) → s.failed ≡ false → IsUnderWay s sub (Next w) → IsMade s sub w new → lsn ≡ length s.records + 1 → IsSound s → IsModelStep s (Step sub.txn sub.number) (Gave_lsn lsn) new
 step_done s new sub w lsn running h m at k =
@@ -279,6 +336,12 @@ steps_are_left s sub running h k =
     let g = going_of s sub (λ r u. u.made < length u.writes) h in
     let more : steps_left (found sub.txn (ledger_of s).open_ones) ≡ true = ap steps_left (found_some s sub.txn g.row g.found) ∙ ap (λ (y : Option Under). nat_lt 0 (left_under y)) g.is ∙ lt-ltb 0 (length g.under.writes - g.under.made) (let m = g.so in omega (arith, m)) in
     refuse s (Finish sub.txn sub.number) why.Unfinished refl tt (rw (running, ledger_going s k sub (λ r u. u.made < length u.writes) g, more) refl) k
+
+pub finish_says : (s new : State) (sub : Sub) (d : Deed) → IsFinished s sub (answer_of d) new → FinishSays s sub (answer_of d) new
+finish_says s new sub (Append sender sequence tag previous body) h = h
+finish_says s new sub (UnlinkHead sender sequence tag body) h = h
+finish_says s new sub (Close sender) h = h
+finish_says s new sub (Mark client tag previous) h = h
 
 pub finish_idle : (s : State) (sub : Sub) (r : Refusal) → CannotFinish s sub r → Refuses s (Finish sub.txn sub.number) r
 finish_idle s sub why.Failed h = refuse_failed s (Finish sub.txn sub.number) h

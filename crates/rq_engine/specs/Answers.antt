@@ -17,6 +17,9 @@ use Rattle.rq_page.specs.Slots.{held_in, IsSlotOf}
 use Rattle.rq_views.specs.Log.{put}
 use Rattle.rq_views.specs.Stored.{slots_in}
 use Rattle.rq_level.specs.declared.writes.SlotWrite.{SlotWrite}
+use Rattle.rq_level.specs.Gists.{gist_of}
+use Rattle.rq_txn.specs.declared.Aim.{Aim}
+use Rattle.rq_txn.specs.declared.Aim.TheVariants.{Doing, Undoing}
 use Rattle.rq_txn.specs.Rows.{Row, Under, found_row, change_row, row_stepped, any_under}
 use Rattle.rq_store.specs.State.{State, ledger_of, size_of}
 use Rattle.rq_sound.specs.Sound.{IsSound}
@@ -25,6 +28,8 @@ use Rattle.rq_sound.specs.ModelSteps.{IsModelStep}
 use Rattle.rq_disk.specs.declared.device.LogDevice as log_device
 use Rattle.rq_disk.specs.declared.device.PageDevice as page_device
 use Rattle.rq_model.specs.declared.record.Record.{Record}
+use Rattle.rq_engine.specs.declared.operations.Ending.{Ending}
+use Rattle.rq_engine.specs.declared.operations.Ending.TheVariants.{Deed, Inverse}
 use Rattle.rq_engine.specs.Earlier.{on, IsEarlier}
 use Rattle.rq_engine.specs.Opened.{OpenStore, AreHonest}
 
@@ -67,6 +72,16 @@ OnUnder n P r (Some u) = (u.number ≡ n) × P r u
 -- the operation is under way, and this is so of its row and of it
 abbrev pub IsUnderWay : State → Sub → (Row → Under → Type 0) → Type 0
 IsUnderWay s sub P = OnFound (found_row sub.txn s.rows) (λ r. OnUnder sub.number P r r.under)
+
+-- it is there to do a deed
+abbrev pub IsDoing : Aim → Type 0
+IsDoing (Doing d) = Unit {0}
+IsDoing (Undoing lsn d) = ⊥
+
+-- what it ends
+abbrev pub ending_of : Aim → Ending
+ending_of (Doing d) = Deed (gist_of d)
+ending_of (Undoing lsn d) = Inverse lsn
 
 abbrev pub IsOther : ℕ → Option Under → Type 0
 IsOther n None = Unit {0}

@@ -54,9 +54,7 @@ impl<P: PageDevice, L: LogDevice, B: Level> Engine<P, L, B> {
     {
         let number = self.check_open(txn)?;
         self.check_close(txn, sender)?;
-        let Ok(op) = Op::close(self.alloc, sender) else {
-            return Err(Refusal::NoMemory);
-        };
+        let op = Op::close(sender);
         match self.start_planned(txn, number, End::Sending(sender), &op) {
             Ok(()) => Ok(Sub { txn, number }),
             Err(refusal) => Err(refusal),

@@ -54,9 +54,7 @@ impl<P: PageDevice, L: LogDevice, B: Level> Engine<P, L, B> {
     {
         let number = self.check_open(txn)?;
         self.check_mark(txn, client)?;
-        let Ok(op) = Op::mark(self.alloc, client, tag) else {
-            return Err(Refusal::NoMemory);
-        };
+        let op = Op::mark(client, tag);
         match self.start_planned(txn, number, End::Marking(client), &op) {
             Ok(()) => Ok(Sub { txn, number }),
             Err(refusal) => Err(refusal),

@@ -127,9 +127,7 @@ impl<P: PageDevice, L: LogDevice, B: Level> Engine<P, L, B> {
         ensures started { P.honest self.new.pages → IsStartOf self.old.state (Do (Chain (Receive sender)))
             (HasStarted self.old.state txn number (End.Receiving sender) (Chain (Receive sender)) self.new.state) result }
     {
-        let Ok(op) = Op::receive(self.alloc, sender) else {
-            return Err(Refusal::NoMemory);
-        };
+        let op = Op::receive(sender);
         self.start_planned(txn, number, End::Receiving(sender), &op)
     }
 

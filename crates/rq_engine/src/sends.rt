@@ -63,9 +63,7 @@ impl<P: PageDevice, L: LogDevice, B: Level> Engine<P, L, B> {
     {
         let number = self.check_open(txn)?;
         self.check_send(txn, sender, tag, body)?;
-        let Ok(op) = Op::send(self.alloc, sender, tag, body) else {
-            return Err(Refusal::NoMemory);
-        };
+        let op = Op::send(sender, tag, body);
         match self.start_planned(txn, number, End::Sending(sender), &op) {
             Ok(()) => {
                 self.cells_in_use += 1;

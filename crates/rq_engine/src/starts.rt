@@ -24,7 +24,6 @@ use rq_disk::{LogDevice, PageDevice};
 use rq_groups::End;
 use rq_level::{Level, Op, Plan};
 use rq_log::Log;
-use rq_model::record::DEED_LIMIT;
 use rq_model::refusal::Refusal;
 use rq_model::txn::Txn;
 use rq_record::{COMP_END_BYTES, OP_END_BYTES, PAGE_OP_BYTES};
@@ -109,12 +108,13 @@ impl<P: PageDevice, L: LogDevice, B: Level> Engine<P, L, B> {
         ensures causes { IfErr result (NotBegun (P.honest self.new.pages)) }
         ensures frames { IsForFrames (pooled self.old) self.old.state.forced (pages_of plan.old.writes.items) result }
     {
-        prove!(plan.deed.as_slice().len() <= DEED_LIMIT);
+        let gist = plan.reply.gist().unwrap();
+        let deed = ToldDeed::new(self.alloc, level, plan.deed.as_slice(), gist)?;
         let operation = Operation {
             number,
             writes: mem::replace(&mut plan.writes, Vec::new(self.alloc)),
             made: 0,
-            aim: Aim::Doing(ToldDeed::new(level, plan.deed, plan.reply.gist().unwrap())),
+            aim: Aim::Doing(deed),
         };
         let Ok(newly) = self.ends.take(txn, end) else {
             return Err(Refusal::NoMemory);
@@ -214,7 +214,7 @@ fn end_len(aim: &Aim) -> usize
     ensures few { result ≤ 286 }
 {
     match aim {
-        Aim::Doing(deed) => OP_END_BYTES + deed.bytes().as_slice().len(),
+        Aim::Doing(deed) => OP_END_BYTES + deed.bytes().len(),
         Aim::Undoing { .. } => COMP_END_BYTES,
     }
 }

@@ -31,7 +31,7 @@ ghost use Rattle.rq_engine.specs.Fixing.{AreWritesOf, StartHasFrames, TakeHasFra
 use crate::engine::Engine;
 use rq_disk::{LogDevice, PageDevice};
 use rq_level::{Level, Plan};
-use rq_model::record::Record;
+use rq_model::record::{DeedBytes, Record};
 use rq_model::refusal::Refusal;
 use rq_model::txn::{Sub, Txn};
 use rq_txn::{Aim, Finished, Operation};
@@ -44,7 +44,7 @@ fn op_end_of(txn: Txn, done: &Finished) -> Record
         txn,
         operation: done.number,
         level: done.deed.level(),
-        deed: *done.deed.bytes(),
+        deed: DeedBytes::new(done.deed.bytes()).unwrap(),
     }
 }
 
@@ -78,7 +78,8 @@ impl<P: PageDevice, L: LogDevice, B: Level> Engine<P, L, B> {
         if self.is_log_full(done.deed.undo_records()) {
             return Err(Refusal::LogFull);
         }
-        match self.start_inverse(txn, number, &done) {
+        let done = done.copy(self.alloc)?;
+        match self.start_inverse(txn, number, done) {
             Ok(()) => Ok(Some(Sub { txn, number })),
             Err(refusal) => Err(refusal),
         }
@@ -86,24 +87,24 @@ impl<P: PageDevice, L: LogDevice, B: Level> Engine<P, L, B> {
 
     // Has the inverse of a finished operation planned from the slots as they are. Takes its frames and all that its steps and its
     // end need, and lets it begin.
-    fn start_inverse(&mut self, txn: Txn, number: u64, done: &Finished) -> Result<(), Refusal>
-        requires ready { IsTurnedBack self.old.state txn number (Some done.now) }
-        requires kept { IsDoneConsistent self.old.state.sizes done.now }
-        requires ended { IsLogged self.old.state.records done.now.lsn (end_of txn done.now) }
-        requires log { log_full (ledger_of self.old.state) (undo_cost (Some (op_done done.now))) ≡ false }
+    fn start_inverse(&mut self, txn: Txn, number: u64, done: Finished) -> Result<(), Refusal>
+        requires ready { IsTurnedBack self.old.state txn number (Some done) }
+        requires kept { IsDoneConsistent self.old.state.sizes done }
+        requires ended { IsLogged self.old.state.records done.lsn (end_of txn done) }
+        requires log { log_full (ledger_of self.old.state) (undo_cost (Some (op_done done))) ≡ false }
         // Whatever the device gave of pages that are read.
-        ensures tried { HasTried P.PageDevice self.old (HasBegunBack self.old.state txn number done.now) result self.new }
-        ensures frames { StartHasFrames (λ ws. P.honest self.new.pages → IsInversePlan self.old.state done.now.deed ws) self.old
+        ensures tried { HasTried P.PageDevice self.old (HasBegunBack self.old.state txn number done) result self.new }
+        ensures frames { StartHasFrames (λ ws. P.honest self.new.pages → IsInversePlan self.old.state done.deed ws) self.old
             (record { txn = txn; number = number }) result self.new.state }
         ensures plain { IfErr result (λ r. r ≢ Refusal.Failed) }
         // Of an honest one.
-        ensures started { P.honest self.new.pages → IsStartOf self.old.state (Undo done.now.deed)
-            (HasTurnedBack self.old.state txn number done.now self.new.state) result }
-        ensures answered { IsGivenBy P.PageDevice result self.new → BeginsAsPlanned self.old.state (to_undo (end_of txn done.now))
-            (λ plan. self.new.state ≡ turned_back self.old.state txn number done.now plan.writes.items) result }
+        ensures started { P.honest self.new.pages → IsStartOf self.old.state (Undo done.deed)
+            (HasTurnedBack self.old.state txn number done self.new.state) result }
+        ensures answered { IsGivenBy P.PageDevice result self.new → BeginsAsPlanned self.old.state (to_undo (end_of txn done))
+            (λ plan. self.new.state ≡ turned_back self.old.state txn number done plan.writes.items) result }
     {
         let mut plan = Plan::new(self.alloc);
-        match self.plan_inverse(&op_end_of(txn, done), &mut plan) {
+        match self.plan_inverse(&op_end_of(txn, &done), &mut plan) {
             Ok(()) => {
                 let operation = Operation {
                     number,
@@ -140,6 +141,7 @@ impl<P: PageDevice, L: LogDevice, B: Level> Engine<P, L, B> {
             (λ p. CanBeTakenBack self.old.state.sizes (slots_now self.old.state) d) }
     {
         plan.writes = self.transactions.spare();
-        self.planner.plan_inverse(self.alloc, &mut self.pages, &self.transactions, told, plan)
+        self.planner
+            .plan_inverse(&mut self.pages, &self.transactions, told, plan)
     }
 }

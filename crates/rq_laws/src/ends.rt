@@ -6,8 +6,8 @@ ghost use Rattle.rq_txn.specs.Rows.{found_row};
 
 use rq_groups::{End, Ends, Waiting};
 use rq_model::refusal::NoMemory;
-use rq_model::txn::Txn;
-use rq_txn::{Finished, Transactions};
+use rq_model::txn::{Lsn, Txn};
+use rq_txn::Transactions;
 
 /// An end is taken, and told as newly held, alike. Excludes one that is told as new where the transaction held it.
 pub fn take(
@@ -57,18 +57,11 @@ pub fn first_for(
 }
 
 /// What a transaction finished stands in its row alike. Excludes an end that is forgotten.
-pub fn note(
-    first: &mut Transactions,
-    second: &mut Transactions,
-    txn: Txn,
-    finished: Finished,
-    again: Finished,
-)
+pub fn note(first: &mut Transactions, second: &mut Transactions, txn: Txn, lsn: Lsn)
     requires same { first.old ≡ second.old }
-    requires told { finished ≡ again }
     requires busy { IfSome (found_row txn first.old) (λ row. IsSome row.under) }
     ensures { first.new ≡ second.new }
 {
-    first.note(txn, finished);
-    second.note(txn, again);
+    first.note(txn, lsn);
+    second.note(txn, lsn);
 }

@@ -88,6 +88,15 @@ row_stepped r = record r { under = under_stepped r.under }
 abbrev pub row_finished : Finished → Row → Row
 row_finished f r = record r { finished = r.finished ++ f ∷ []; under = None }
 
+-- what an operation under way comes to whose end has this LSN
+abbrev pub finished_at : ℕ → Option Under → List Finished
+finished_at lsn None = []
+finished_at lsn (Some u) = record { lsn = lsn; number = u.number; deed = deed_of u.aim } ∷ []
+
+-- its operation under way is finished, and its end has this LSN
+abbrev pub row_ended : ℕ → Row → Row
+row_ended lsn r = record r { finished = r.finished ++ finished_at lsn r.under; under = None }
+
 -- its inverse is done, and this is left
 abbrev pub row_undone : List Finished → Row → Row
 row_undone fs r = record r { finished = fs; under = None }

@@ -21,7 +21,7 @@ mod told;
 pub use told::ToldDeed;
 
 /// An operation that is finished and not undone.
-#[derive(Clone, Copy)]
+#[derive(Drop)]
 pub struct Finished {
     /// The LSN of its OpEnd.
     pub lsn: Lsn,
@@ -31,13 +31,61 @@ pub struct Finished {
     pub deed: ToldDeed,
 }
 
+impl Finished {
+    ghost use Rattle.std.specs.Prelude.{◌≡◌, IfOk};
+
+    /// A copy of it.
+    ///
+    /// # Errors
+    /// `NoMemory`.
+    pub fn copy(&self, alloc: Global) -> Result<Finished, NoMemory>
+        ensures { IfOk result (λ done. done ≡ self.now) }
+    {
+        match self.deed.copy(alloc) {
+            Ok(deed) => Ok(Finished {
+                lsn: self.lsn,
+                number: self.number,
+                deed,
+            }),
+            Err(NoMemory) => Err(NoMemory),
+        }
+    }
+}
+
 /// What an operation under way is for.
-#[derive(Clone, Copy)]
+#[derive(Drop)]
 pub enum Aim {
     /// A deed.
     Doing(ToldDeed),
     /// To take back what the finished operation did whose OpEnd has this LSN.
     Undoing { lsn: Lsn, deed: ToldDeed },
+}
+
+impl Aim {
+    ghost use Rattle.std.specs.Prelude.{◌≡◌};
+    ghost use Rattle.rq_txn.specs.Rows.{deed_of};
+
+    /// The deed that it is there to do or to take back.
+    #[inline(always)]
+    pub fn deed(&self) -> &ToldDeed
+        ensures { result.now ≡ deed_of self.now }
+    {
+        match self {
+            Aim::Doing(deed) => deed,
+            Aim::Undoing { lsn: _, deed } => deed,
+        }
+    }
+
+    // That deed, and no more of it.
+    #[inline(always)]
+    fn into_deed(self) -> ToldDeed
+        ensures { result ≡ deed_of self }
+    {
+        match self {
+            Aim::Doing(deed) => deed,
+            Aim::Undoing { lsn: _, deed } => deed,
+        }
+    }
 }
 
 /// An operation under way.
@@ -89,7 +137,7 @@ pub struct Transaction {
 
 impl Transaction {
     ghost use Rattle.std.specs.Prelude.{◌≡◌, ◌<◌, [], IfSome, IsSome, None, OnErr, OnOk, Some, length};
-    ghost use Rattle.rq_txn.specs.Rows.{row_aborting, row_finished, row_of, row_started, row_stepped, row_taken_back, under_of};
+    ghost use Rattle.rq_txn.specs.Rows.{row_aborting, row_ended, row_of, row_started, row_stepped, row_taken_back, under_of};
     ghost use Rattle.rq_txn.specs.Tallies.{HasRoom, IsCounted, Latches, Moves};
 
     // The operation is under way, in place of one that was.
@@ -120,16 +168,25 @@ impl Transaction {
         }
     }
 
-    // The operation under way is finished.
+    // The operation under way is finished, and its end has this LSN.
     #[inline(always)]
-    fn finish(&mut self, finished: Finished, tally: &mut Tally)
+    fn finish(&mut self, lsn: Lsn, tally: &mut Tally)
         requires busy { IsSome self.old.under_way }
         requires counted { IsCounted (row_of self.old).under tally.old }
-        ensures row { row_of self.new ≡ row_finished finished (row_of self.old) }
+        ensures row { row_of self.new ≡ row_ended lsn (row_of self.old) }
         ensures moved { Moves (row_of self.old).under None tally.old tally.new }
     {
-        self.finished.push(finished).unwrap();
-        tally.release(self.under_way.take());
+        if let Some(operation) = self.under_way.take() {
+            let Operation {
+                number,
+                writes,
+                made: _,
+                aim,
+            } = operation;
+            tally.end(writes);
+            let deed = aim.into_deed();
+            self.finished.push(Finished { lsn, number, deed }).unwrap();
+        }
     }
 
     // It is aborting.
@@ -205,7 +262,7 @@ impl Transactions {
     ghost use Rattle.std.specs.Prelude.{◌≡◌, ℕ, ◌<◌, ◌≤◌, [], ◌∷◌, IfSome, IsSome, MatchOption, OnErr, OnOk, length, nat_eq, nat_lt, not, reverse, slice_index_or};
     ghost use Rattle.rq_level.specs.Given.{has_page};
     ghost use Rattle.rq_model.specs.Vocabulary.{In, last};
-    ghost use Rattle.rq_txn.specs.Rows.{AreDistinct, Row, any_under, change_row, finished_of, found_row, fresh_row, latched_in, row_aborting, row_finished, row_of, row_started, row_stepped, row_taken_back, under_of, without_row};
+    ghost use Rattle.rq_txn.specs.Rows.{AreDistinct, Row, any_under, change_row, finished_of, found_row, fresh_row, latched_in, row_aborting, row_ended, row_of, row_started, row_stepped, row_taken_back, under_of, without_row};
 
     /// No transaction.
     pub fn new(alloc: Global) -> Self
@@ -287,10 +344,11 @@ impl Transactions {
 
     /// What the transaction did last and has not undone: none where nothing is left to undo, or it has ended.
     #[inline(always)]
-    pub fn next_undo(&self, txn: Txn) -> Option<Finished>
-        ensures { result ≡ last (finished_of (found_row txn self.now)) }
+    pub fn next_undo(&self, txn: Txn) -> Option<&Finished>
+        ensures { MatchOption result (last (finished_of (found_row txn self.now)) ≡ None)
+            (λ done. last (finished_of (found_row txn self.now)) ≡ Some done.now) }
     {
-        self.finished(txn).last().copied()
+        self.finished(txn).last()
     }
 
     /// A vector for the writes of the next operation. It may have room for them.
@@ -326,14 +384,14 @@ impl Transactions {
         }
     }
 
-    /// The transaction's operation under way is finished, and came to this.
+    /// The transaction's operation under way is finished, and its end has this LSN.
     #[inline(always)]
-    pub fn note(&mut self, txn: Txn, finished: Finished)
+    pub fn note(&mut self, txn: Txn, lsn: Lsn)
         requires { IfSome (found_row txn self.old) (λ row. IsSome row.under) }
-        ensures { self.new ≡ change_row txn (row_finished finished) self.old }
+        ensures { self.new ≡ change_row txn (row_ended lsn) self.old }
     {
         if let Some(key) = key_of(&self.rows, &self.places, txn) {
-            self.rows[key].finish(finished, &mut self.tally);
+            self.rows[key].finish(lsn, &mut self.tally);
         }
     }
 

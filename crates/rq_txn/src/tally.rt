@@ -88,10 +88,20 @@ impl Tally {
         ensures { Moves (under_way_of was) None self.old self.new }
     {
         if let Some(operation) = was {
-            self.unlatch(&operation.writes);
-            self.operations -= 1;
-            self.spare = operation.writes;
+            self.end(operation.writes);
         }
+    }
+
+    /// An operation of these writes is no longer under way.
+    #[inline(always)]
+    pub fn end(&mut self, writes: Vec<SlotWrite>)
+        requires some { 1 ≤ self.old.operations }
+        requires latched { (p : ℕ) → one_if (has_page p (pages_of writes.items)) ≤ latches_at self.old p }
+        ensures { IsMore (pages_of writes.items) self.new self.old }
+    {
+        self.unlatch(&writes);
+        self.operations -= 1;
+        self.spare = writes;
     }
 
     /// A vector for the writes of an operation. It may have room for them.

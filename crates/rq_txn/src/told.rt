@@ -1,5 +1,5 @@
 //! Deeds, as levels tell them.
-ghost use Rattle.std.specs.Prelude.{◌≡◌, ◌↔◌, IsTrue, Some};
+ghost use Rattle.std.specs.Prelude.{◌≡◌, ◌≤◌, ◌↔◌, IfOk, IsTrue, Some, length};
 ghost use Rattle.rq_model.specs.Commits.{op_of};
 ghost use Rattle.rq_model.specs.Content.{said};
 ghost use Rattle.rq_model.specs.Deeds.{deed_by, deed_level, spelled_deed};
@@ -9,48 +9,58 @@ ghost use Rattle.rq_level.specs.Gists.{gist_of};
 ghost use Rattle.rq_txn.specs.Told.{TellsGist, sent_by, tagged, taken_from};
 
 use rq_level::{CHAIN_RECORDS, Gist, ONE_SLOT_RECORDS};
-use rq_model::record::{Deed, DeedBytes};
+use rq_model::record::Deed;
+use rq_model::refusal::NoMemory;
 use rq_record::decode_told;
+use std::alloc::Global;
 use std::marker::Model;
 
 /// A deed, in the bytes that its level told, with the level's number and what is counted of it. Contracts see the deed.
-#[derive(Clone, Copy)]
+#[derive(Drop)]
 pub struct ToldDeed {
     level: u8,
-    bytes: DeedBytes,
+    bytes: Vec<u8>,
     gist: Gist,
 }
 
 impl Model for ToldDeed {
-    ghost use Rattle.std.proofs.Common.{ap, sym, ◌∙◌};
+    ghost use Rattle.std.specs.Prelude.{◌≤◌, length};
     ghost use Rattle.rq_model.specs.declared.record.Deed.{Deed};
-    ghost use Rattle.rq_model.specs.Deeds.{deed_by, deed_level, spelled_deed};
-    ghost use Rattle.rq_model.proofs.Deeds.{told_by_its_level};
+    ghost use Rattle.rq_model.specs.Deeds.{deed_by};
     ghost use Rattle.rq_views.specs.Items.{told_deed};
-    ghost use Rattle.rq_level.specs.Gists.{gist_of};
     ghost use Rattle.rq_txn.specs.Told.{TellsGist};
 
     ghost Value = { Deed };
 
-    ghost view = { λ t. told_deed (deed_by t.level t.bytes) };
+    ghost view = { λ t. told_deed (deed_by t.level t.bytes.items) };
 
-    ghost invariant = { λ t. TellsGist t.level t.bytes t.gist };
-
-    ghost inverse = { λ d. record { level = deed_level d; bytes = spelled_deed d; gist = gist_of d } };
-
-    ghost inverse_ok = { λ t h. let d = told_deed (deed_by t.level t.bytes) in
-        ap (λ bytes. record { level = deed_level d; bytes = bytes; gist = gist_of d }) h.told.spelled
-        ∙ ap (λ level. record { level = level; bytes = t.bytes; gist = gist_of d }) (told_by_its_level t.level t.bytes _ h.told.reads)
-        ∙ ap (λ gist. record { level = t.level; bytes = t.bytes; gist = gist }) (sym h.counted) };
+    ghost invariant = { λ t. TellsGist t.level t.bytes.items t.gist × (length t.bytes.items ≤ 256) };
 }
 
 impl ToldDeed {
     /// The deed of this level that these bytes are the spelling of, with what is counted of it.
-    pub fn new(level: u8, bytes: DeedBytes, gist: Gist) -> Self
-        requires { TellsGist level bytes gist }
-        ensures { deed_by level bytes ≡ Some result }
+    ///
+    /// # Errors
+    /// `NoMemory`.
+    pub fn new(alloc: Global, level: u8, deed: &[u8], gist: Gist) -> Result<Self, NoMemory>
+        requires told { TellsGist level deed.now gist }
+        requires short { length deed.now ≤ 256 }
+        ensures { IfOk result (λ told. deed_by level deed.now ≡ Some told) }
     {
-        ToldDeed { level, bytes, gist }
+        match Vec::from_slice(alloc, deed) {
+            Ok(bytes) => Ok(ToldDeed { level, bytes, gist }),
+            Err(_) => Err(NoMemory),
+        }
+    }
+
+    /// A copy of it.
+    ///
+    /// # Errors
+    /// `NoMemory`.
+    pub fn copy(&self, alloc: Global) -> Result<ToldDeed, NoMemory>
+        ensures { IfOk result (λ told. told ≡ self.now) }
+    {
+        ToldDeed::new(alloc, self.level, &self.bytes, self.gist)
     }
 
     /// The number of its level.
@@ -61,9 +71,10 @@ impl ToldDeed {
     }
 
     /// Its bytes.
-    pub fn bytes(&self) -> &DeedBytes
+    pub fn bytes(&self) -> &[u8]
         ensures spelled { result.now ≡ spelled_deed self.now }
         ensures reads { deed_by (deed_level self.now) result.now ≡ Some self.now }
+        ensures short { length result.now ≤ 256 }
     {
         &self.bytes
     }
@@ -72,7 +83,7 @@ impl ToldDeed {
     pub fn deed(&self) -> Deed
         ensures { result ≡ self.now }
     {
-        decode_told(self.level, self.bytes.as_slice()).unwrap()
+        decode_told(self.level, &self.bytes).unwrap()
     }
 
     /// Whose message was sent, where one was.
@@ -126,9 +137,9 @@ impl ToldDeed {
         }
     }
 
-    // What is counted of it.
+    /// What is counted of it.
     #[inline(always)]
-    fn gist(&self) -> Gist
+    pub fn gist(&self) -> Gist
         ensures { result ≡ gist_of self.now }
     {
         self.gist

@@ -1,5 +1,5 @@
 use Rattle.std.proofs.Common.{refl}
-use Rattle.rq_txn.specs.Rows.{row_finished}
+use Rattle.rq_txn.specs.Rows.{row_ended}
 use Rattle.rq_txn.proofs.Placing.{kept_changed, seen_changed, seen_absent, seen_at, counted_at}
 use Rattle.rq_txn.proofs.Standing.{under_found}
 use Rattle.rq_txn.proofs.Transactions.note.Goals as goal
@@ -17,14 +17,14 @@ finish-requires-clause-counted c =
 pub invariant_of-self : goal.invariant_of-self
 invariant_of-self c =
     let i = c.self.inside in
-    kept_changed i.rows i.places.items c.deref.result.now i.tally c.finish.new.tally c.args.txn (row_finished c.args.finished) c.in-Some.key c.index_mut.result.now c.finish.new.self c.self.invariant c.deref.ensures.value c.in-Some.ensures c.index_mut.ensures.value c.finish.ensures.row refl c.finish.ensures.moved
+    kept_changed i.rows i.places.items c.deref.result.now i.tally c.finish.new.tally c.args.txn (row_ended c.args.lsn) c.in-Some.key c.index_mut.result.now c.finish.new.self c.self.invariant c.deref.ensures.value c.in-Some.ensures c.index_mut.ensures.value c.finish.ensures.row refl c.finish.ensures.moved
 
 pub returns-in-Some : goal.returns-in-Some
 returns-in-Some c =
     let i = c.self.inside in
-    seen_changed i.rows i.places.items c.deref.result.now i.tally c.args.self.now c.args.txn (row_finished c.args.finished) c.in-Some.key c.index_mut.result.now c.finish.new.self c.self.invariant c.self.view_is c.deref.ensures.value c.in-Some.ensures c.index_mut.ensures.value c.finish.ensures.row
+    seen_changed i.rows i.places.items c.deref.result.now i.tally c.args.self.now c.args.txn (row_ended c.args.lsn) c.in-Some.key c.index_mut.result.now c.finish.new.self c.self.invariant c.self.view_is c.deref.ensures.value c.in-Some.ensures c.index_mut.ensures.value c.finish.ensures.row
 
 pub returns-in_default : goal.returns-in_default
 returns-in_default c =
     let i = c.self.inside in
-    seen_absent i.rows i.places.items c.deref.result.now i.tally c.args.self.now c.args.txn (row_finished c.args.finished) c.self.invariant c.self.view_is c.deref.ensures.value c.in_default.ensures
+    seen_absent i.rows i.places.items c.deref.result.now i.tally c.args.self.now c.args.txn (row_ended c.args.lsn) c.self.invariant c.self.view_is c.deref.ensures.value c.in_default.ensures

@@ -21,18 +21,18 @@ launch-requires-clause-fits g c =
     let level = c.args.level in
     let bytes = c.args.plan.now.deed in
     let told = c.requires.lawful.told in
-    let d : told_deed (deed_by level bytes) ≡ c.new-2.result = ap told_deed c.new-2.ensures in
-    let spelled : spelled_deed c.new-2.result ≡ bytes = ap spelled_deed (sym d) ∙ told.spelled in
+    let d : told_deed (deed_by level bytes) ≡ c.in_ok-deed.deed = ap told_deed (ap (deed_by level) (sym c.as_slice.ensures.bytes) ∙ c.in_ok-deed.ensures) in
+    let spelled : spelled_deed c.in_ok-deed.deed ≡ bytes = ap spelled_deed (sym d) ∙ told.spelled in
     let within = c.as_slice.ensures.within in
-    let size : length (spelled_deed c.new-2.result) ≡ length bytes = ap length spelled in
+    let size : length (spelled_deed c.in_ok-deed.deed) ≡ length bytes = ap length spelled in
     let some = some_told level bytes (told_deed (deed_by level bytes)) told.reads in
-    let sender : IsDeedOf s.sizes c.new-2.result = subst (IsDeedOf s.sizes) d c.requires.inside in
-    let fits : EndFits (Doing c.new-2.result) = (omega (arith, size, some), omega (arith, size, within), subst TellsItself d (tells_itself level bytes told)) in
+    let sender : IsDeedOf s.sizes c.in_ok-deed.deed = subst (IsDeedOf s.sizes) d c.requires.inside in
+    let fits : EndFits (Doing c.in_ok-deed.deed) = (omega (arith, size, some), omega (arith, size, within), subst TellsItself d (tells_itself level bytes told)) in
     record {
       made = refl;
       few = rw c.replace.ensures.value c.requires.lawful.count;
       slots = rw c.replace.ensures.value (subst (λ (x : State). AreSlotWrites x.sizes c.args.plan.now.writes.items) (sym (state_is c.self.view_is)) c.requires.lawful.slots);
-      sender = subst (λ (x : State). IsDeedOf x.sizes c.new-2.result) (sym (state_is c.self.view_is)) sender;
+      sender = subst (λ (x : State). IsDeedOf x.sizes c.in_ok-deed.deed) (sym (state_is c.self.view_is)) sender;
       fits = fits;
     }
 

@@ -23,17 +23,17 @@ use Rattle.rq_engine.proofs.Wanting.{no_plan_frames, planned_frames}
 use Rattle.rq_engine.proofs.engine.Engine.start_inverse.Goals as goal
 
 pub plan_inverse-requires-clause-logged : goal.plan_inverse-requires-clause-logged
-plan_inverse-requires-clause-logged g c = (c.args.done.now.lsn, subst (λ (r : Record). IsLogged c.args.self.now.state.records c.args.done.now.lsn r) (sym c.op_end_of.ensures) c.requires.ended)
+plan_inverse-requires-clause-logged g c = (c.args.done.lsn, subst (λ (r : Record). IsLogged c.args.self.now.state.records c.args.done.lsn r) (sym c.op_end_of.ensures) c.requires.ended)
 
 pub plan_inverse-requires-clause-reads : goal.plan_inverse-requires-clause-reads
 plan_inverse-requires-clause-reads g c = ap is_some (ap deed_back c.op_end_of.ensures ∙ c.requires.kept.reads)
 
 pub launch-requires-clause-ready : goal.launch-requires-clause-ready
-launch-requires-clause-ready g c = subst (λ (x : State). HasNothingUnderWay x c.args.txn c.args.number) (sym c.in-Ok.ensures.read.lists) (turned_idle c.args.self.now.state c.args.txn c.args.number (Some c.args.done.now) c.requires.ready)
+launch-requires-clause-ready g c = subst (λ (x : State). HasNothingUnderWay x c.args.txn c.args.number) (sym c.in-Ok.ensures.read.lists) (turned_idle c.args.self.now.state c.args.txn c.args.number (Some c.args.done) c.requires.ready)
 
 pub launch-requires-clause-fits : goal.launch-requires-clause-fits
 launch-requires-clause-fits g c =
-    let kept = subst (λ (x : State). IsDoneConsistent x.sizes c.args.done.now) (sym c.in-Ok.ensures.read.lists) c.requires.kept in
+    let kept = subst (λ (x : State). IsDoneConsistent x.sizes c.args.done) (sym c.in-Ok.ensures.read.lists) c.requires.kept in
     record {
       made = refl;
       few = c.in-Ok.ensures.lawful.count;
@@ -45,27 +45,27 @@ launch-requires-clause-fits g c =
 pub launch-requires-clause-log : goal.launch-requires-clause-log
 launch-requires-clause-log g c =
     let s = c.args.self.now.state in
-    let few = c.in-Ok.ensures.few c.args.done.now.deed (ap deed_back c.op_end_of.ensures ∙ c.requires.kept.reads) in
-    subst (λ (x : State). HasRoom x c.plan_inverse.new.plan.writes.items) (sym c.in-Ok.ensures.read.lists) (has_room s c.plan_inverse.new.plan.writes.items (undo_cost (Some (op_done c.args.done.now))) c.requires.log few)
+    let few = c.in-Ok.ensures.few c.args.done.deed (ap deed_back c.op_end_of.ensures ∙ c.requires.kept.reads) in
+    subst (λ (x : State). HasRoom x c.plan_inverse.new.plan.writes.items) (sym c.in-Ok.ensures.read.lists) (has_room s c.plan_inverse.new.plan.writes.items (undo_cost (Some (op_done c.args.done))) c.requires.log few)
 
 pub launch-requires-clause-unlatched : goal.launch-requires-clause-unlatched
 launch-requires-clause-unlatched g c = subst (λ (x : State). AreUnlatched x c.plan_inverse.new.plan.writes.items) (sym c.in-Ok.ensures.read.lists) c.in-Ok.ensures.free
 
 pub returns-in-Ok-clause-tried : goal.returns-in-Ok-clause-tried
 returns-in-Ok-clause-tried g c =
-    let f = c.args.done.now in
+    let f = c.args.done in
     let ws = c.plan_inverse.new.plan.writes.items in
     tried_planned g.P.PageDevice (g.P.PageDevice.honest c.launch.new.self.pages) c.args.self.now c.plan_inverse.new.self c.launch.new.self (HasBegunBack c.args.self.now.state c.args.txn c.args.number f)
     (change_row c.args.txn (row_started (record { number = c.args.number; writes = ws; made = 0; aim = Undoing f.lsn f.deed }))) (λ ends. ends) (c.in-Ok.ensures.read, c.in-Ok.ensures.counts) (record { writes = ws; state = refl })
     c.launch.result c.launch.ensures.launched c.launch.ensures.devices c.launch.ensures.counts c.launch.ensures.left c.launch.ensures.causes
 
 pub returns-in-Err-clause-tried : goal.returns-in-Err-clause-tried
-returns-in-Err-clause-tried g c = tried_refused g.P.PageDevice c.args.self.now c.plan_inverse.new.self (HasBegunBack c.args.self.now.state c.args.txn c.args.number c.args.done.now) c.in-Err.why c.in-Err.ensures.read c.in-Err.ensures.counts c.in-Err.ensures.causes
+returns-in-Err-clause-tried g c = tried_refused g.P.PageDevice c.args.self.now c.plan_inverse.new.self (HasBegunBack c.args.self.now.state c.args.txn c.args.number c.args.done) c.in-Err.why c.in-Err.ensures.read c.in-Err.ensures.counts c.in-Err.ensures.causes
 
 pub returns-in-Ok-clause-started : goal.returns-in-Ok-clause-started
 returns-in-Ok-clause-started g c honest =
     let s = c.args.self.now.state in
-    let f = c.args.done.now in
+    let f = c.args.done in
     let truly = c.launch.ensures.devices.0.honest honest in
     let is = c.in-Ok.ensures.planned (truly, read_on _) f.deed (ap deed_back c.op_end_of.ensures ∙ c.requires.kept.reads) c.requires.kept.sender in
     let p : IsPlanBack (known_part s) f.deed c.plan_inverse.new.plan = is.plan in
@@ -80,12 +80,12 @@ returns-in-Ok-clause-started g c honest =
 pub returns-in-Err-clause-started : goal.returns-in-Err-clause-started
 returns-in-Err-clause-started g c honest =
     let s = c.args.self.now.state in
-    plan_refused s (Undo c.args.done.now.deed) _ c.in-Err.why (λ none. c.in-Err.ensures.planned (honest, no_read c.in-Err.why none) c.args.done.now.deed (ap deed_back c.op_end_of.ensures ∙ c.requires.kept.reads) c.requires.kept.sender)
+    plan_refused s (Undo c.args.done.deed) _ c.in-Err.why (λ none. c.in-Err.ensures.planned (honest, no_read c.in-Err.why none) c.args.done.deed (ap deed_back c.op_end_of.ensures ∙ c.requires.kept.reads) c.requires.kept.sender)
 
 pub returns-in-Ok-clause-answered : goal.returns-in-Ok-clause-answered
 returns-in-Ok-clause-answered g c given =
     let s = c.args.self.now.state in
-    let f = c.args.done.now in
+    let f = c.args.done in
     let truly = c.launch.ensures.devices.0.honest given.0 in
     record {
       plan = Ok c.plan_inverse.new.plan;
@@ -112,7 +112,7 @@ returns-in-Err-clause-plain g c = never_failed c.in-Err.why (may_start c.in-Err.
 pub returns-in-Ok-clause-frames : goal.returns-in-Ok-clause-frames
 returns-in-Ok-clause-frames g c =
     let s = c.args.self.now.state in
-    let f = c.args.done.now in
+    let f = c.args.done in
     let ws = c.plan_inverse.new.plan.writes.items in
     planned_frames g.P.PageDevice c.args.self.now c.plan_inverse.new.self c.in-Ok.ensures.read c.args.txn (record { number = c.args.number; writes = ws; made = 0; aim = Undoing f.lsn f.deed }) (λ l. g.P.PageDevice.honest c.launch.new.self.pages → IsInversePlan s f.deed l) c.launch.new.self.state (turned_back c.plan_inverse.new.self.state c.args.txn c.args.number f ws)
     (turned_idle s c.args.txn c.args.number (Some f) c.requires.ready)

@@ -18,48 +18,44 @@ use Rattle.rq_engine.proofs.Tested.{mark_unready}
 use Rattle.rq_engine.proofs.Wanting.{full_more, mark_writes, no_test_frames}
 use Rattle.rq_engine.proofs.engine.Engine.start_mark.Goals as goal
 
-pub returns-in_default-clause-answered : goal.returns-in_default-clause-answered
-returns-in_default-clause-answered g c h earlier long =
-    no_memory (on earlier c.args.self.now.state) _ c.in_ok-number.ensures.running (λ k. c.in_ok-check_mark.ensures.passes earlier c.args.tag long k c.in_ok-number.ensures.passes) (λ k. refl)
-
 pub start_planned-requires-clause-forward : goal.start_planned-requires-clause-forward
-start_planned-requires-clause-forward g c = ap (λ (j : Job). j.undo) c.in-Ok.ensures.op
+start_planned-requires-clause-forward g c = ap (λ (j : Job). j.undo) c.mark-op.ensures.op
 
 pub start_planned-requires-clause-may : goal.start_planned-requires-clause-may
 start_planned-requires-clause-may g c = record {
   task = Tag (record { client = c.args.client; tag = c.args.tag });
-  is = tagged c.in-Ok.op.level c.in-Ok.op.bytes _ (ap (λ (j : Job). j.level) c.in-Ok.ensures.op) c.in-Ok.ensures.told;
+  is = tagged c.mark-op.result.level c.mark-op.result.bytes _ (ap (λ (j : Job). j.level) c.mark-op.ensures.op) c.mark-op.ensures.told;
   may = record { ready = c.in_ok-number.ensures.ready; free = c.in_ok-check_mark.ensures.free; log = c.in_ok-check_mark.ensures.log; inside = c.in_ok-check_mark.ensures.client c.args.tag };
 }
 
-pub returns-in-Ok-start_planned-clause-answered : goal.returns-in-Ok-start_planned-clause-answered
-returns-in-Ok-start_planned-clause-answered g c h earlier long =
+pub returns-in-Ok-clause-answered : goal.returns-in-Ok-clause-answered
+returns-in-Ok-clause-answered g c h earlier long =
     let s = c.args.self.now.state in
     let mark : Tagging = record { client = c.args.client; tag = c.args.tag } in
-    let told = tagged c.in-Ok.op.level c.in-Ok.op.bytes _ (ap (λ (j : Job). j.level) c.in-Ok.ensures.op) c.in-Ok.ensures.told in
-    let b : HasStarted s c.args.txn c.in_ok-number.number (Marking c.args.client) (Tag mark) c.start_planned.new.self.state = (c.in-Ok-start_planned.ensures.started h.0 (Tag mark) told).begun in
+    let told = tagged c.mark-op.result.level c.mark-op.result.bytes _ (ap (λ (j : Job). j.level) c.mark-op.ensures.op) c.mark-op.ensures.told in
+    let b : HasStarted s c.args.txn c.in_ok-number.number (Marking c.args.client) (Tag mark) c.start_planned.new.self.state = (c.in-Ok.ensures.started h.0 (Tag mark) told).begun in
     mark_done (on earlier s) c.args.txn c.args.client c.args.tag c.in_ok-number.ensures.passes _ c.in_ok-number.number b.plan
     c.in_ok-number.ensures.ready b.planned.free (mark_plan s mark c.in_ok-number.number b.plan (c.in_ok-check_mark.ensures.client c.args.tag).0 b.planned) (λ k. c.in_ok-check_mark.ensures.passes earlier c.args.tag long k c.in_ok-number.ensures.passes)
     (ap (on earlier) b.state)
 
-pub returns-in-Ok-start_planned-clause-sizes : goal.returns-in-Ok-start_planned-clause-sizes
-returns-in-Ok-start_planned-clause-sizes g c =
+pub returns-in-Ok-clause-sizes : goal.returns-in-Ok-clause-sizes
+returns-in-Ok-clause-sizes g c =
     let mark : Tagging = record { client = c.args.client; tag = c.args.tag } in
-    let told = tagged c.in-Ok.op.level c.in-Ok.op.bytes _ (ap (λ (j : Job). j.level) c.in-Ok.ensures.op) c.in-Ok.ensures.told in
-    (c.in-Ok-start_planned.ensures.tried (Tag mark) told).devices.0.sizes
+    let told = tagged c.mark-op.result.level c.mark-op.result.bytes _ (ap (λ (j : Job). j.level) c.mark-op.ensures.op) c.mark-op.ensures.told in
+    (c.in-Ok.ensures.tried (Tag mark) told).devices.0.sizes
 
-pub returns-in-Ok-start_planned-clause-latched : goal.returns-in-Ok-start_planned-clause-latched
-returns-in-Ok-start_planned-clause-latched g c earlier long k =
+pub returns-in-Ok-clause-latched : goal.returns-in-Ok-clause-latched
+returns-in-Ok-clause-latched g c earlier long k =
     let mark : Tagging = record { client = c.args.client; tag = c.args.tag } in
-    let told = tagged c.in-Ok.op.level c.in-Ok.op.bytes _ (ap (λ (j : Job). j.level) c.in-Ok.ensures.op) c.in-Ok.ensures.told in
-    mark_unlatched (on earlier c.args.self.now.state) k c.args.txn c.args.client c.args.tag (c.in-Ok-start_planned.ensures.latched (Tag mark) told)
+    let told = tagged c.mark-op.result.level c.mark-op.result.bytes _ (ap (λ (j : Job). j.level) c.mark-op.ensures.op) c.mark-op.ensures.told in
+    mark_unlatched (on earlier c.args.self.now.state) k c.args.txn c.args.client c.args.tag (c.in-Ok.ensures.latched (Tag mark) told)
 
-pub returns-in-Ok-start_planned-clause-lists : goal.returns-in-Ok-start_planned-clause-lists
-returns-in-Ok-start_planned-clause-lists g c honest =
+pub returns-in-Ok-clause-lists : goal.returns-in-Ok-clause-lists
+returns-in-Ok-clause-lists g c honest =
     let s = c.args.self.now.state in
     let mark : Tagging = record { client = c.args.client; tag = c.args.tag } in
-    let told = tagged c.in-Ok.op.level c.in-Ok.op.bytes _ (ap (λ (j : Job). j.level) c.in-Ok.ensures.op) c.in-Ok.ensures.told in
-    let b : HasStarted s c.args.txn c.in_ok-number.number (Marking c.args.client) (Tag mark) c.start_planned.new.self.state = (c.in-Ok-start_planned.ensures.started honest (Tag mark) told).begun in (
+    let told = tagged c.mark-op.result.level c.mark-op.result.bytes _ (ap (λ (j : Job). j.level) c.mark-op.ensures.op) c.mark-op.ensures.told in
+    let b : HasStarted s c.args.txn c.in_ok-number.number (Marking c.args.client) (Tag mark) c.start_planned.new.self.state = (c.in-Ok.ensures.started honest (Tag mark) told).begun in (
       refl,
       record {
         under = under_plan c.in_ok-number.number b.plan;
@@ -70,12 +66,12 @@ returns-in-Ok-start_planned-clause-lists g c honest =
       },
     )
 
-pub returns-clause-answered : goal.returns-clause-answered
-returns-clause-answered g c h earlier long k =
+pub returns-in-Err-clause-answered : goal.returns-in-Err-clause-answered
+returns-in-Err-clause-answered g c h earlier long k =
     let old = c.args.self.now.state in
     let s = on earlier old in
     let mark : Tagging = record { client = c.args.client; tag = c.args.tag } in
-    let told = tagged c.in-Ok.op.level c.in-Ok.op.bytes _ (ap (λ (j : Job). j.level) c.in-Ok.ensures.op) c.in-Ok.ensures.told in
+    let told = tagged c.mark-op.result.level c.mark-op.result.bytes _ (ap (λ (j : Job). j.level) c.mark-op.ensures.op) c.mark-op.ensures.told in
     let p = c.in-Err.ensures.started h.0 (Tag mark) told in
     let few = not_full old 2 c.in_ok-check_mark.ensures.log in
     let n = long_on earlier old long in
@@ -84,10 +80,10 @@ returns-clause-answered g c h earlier long k =
     (ap (on earlier) (start_left g.P.PageDevice c.args.self.now _ c.in-Err.refusal t.devices t.left h.0))
     (no_memory s _ c.in_ok-number.ensures.running (λ k. c.in_ok-check_mark.ensures.passes earlier c.args.tag long k c.in_ok-number.ensures.passes) (λ k. refl)) (λ held. refused s c.args.txn c.args.client c.args.tag c.in_ok-number.ensures.passes (λ k. c.in_ok-check_mark.ensures.passes earlier c.args.tag long k c.in_ok-number.ensures.passes) (mark_held s mark held)) k
 
-pub returns-clause-latched : goal.returns-clause-latched
-returns-clause-latched g c earlier long k =
+pub returns-in-Err-clause-latched : goal.returns-in-Err-clause-latched
+returns-in-Err-clause-latched g c earlier long k =
     let mark : Tagging = record { client = c.args.client; tag = c.args.tag } in
-    let told = tagged c.in-Ok.op.level c.in-Ok.op.bytes _ (ap (λ (j : Job). j.level) c.in-Ok.ensures.op) c.in-Ok.ensures.told in
+    let told = tagged c.mark-op.result.level c.mark-op.result.bytes _ (ap (λ (j : Job). j.level) c.mark-op.ensures.op) c.mark-op.ensures.told in
     latched_more _ _ (mark_refused (on earlier c.args.self.now.state) k c.args.txn c.args.client c.args.tag) c.in-Err.refusal (c.in-Err.ensures.latched (Tag mark) told)
 
 pub returns-in_err-check_mark-clause-answered : goal.returns-in_err-check_mark-clause-answered
@@ -95,49 +91,49 @@ returns-in_err-check_mark-clause-answered g c =
     let refuses = c.in_err-check_mark.ensures.refused c.args.tag c.in_ok-number.ensures.passes in
     search (rules, refuses)
 
-pub returns-in-Ok-start_planned-clause-begun : goal.returns-in-Ok-start_planned-clause-begun
-returns-in-Ok-start_planned-clause-begun g c =
+pub returns-in-Ok-clause-begun : goal.returns-in-Ok-clause-begun
+returns-in-Ok-clause-begun g c =
     let mark : Tagging = record { client = c.args.client; tag = c.args.tag } in
-    let told = tagged c.in-Ok.op.level c.in-Ok.op.bytes _ (ap (λ (j : Job). j.level) c.in-Ok.ensures.op) c.in-Ok.ensures.told in
+    let told = tagged c.mark-op.result.level c.mark-op.result.bytes _ (ap (λ (j : Job). j.level) c.mark-op.ensures.op) c.mark-op.ensures.told in
     let s = c.args.self.now.state in
-    let p = (c.in-Ok-start_planned.ensures.tried (Tag mark) told) in
+    let p = (c.in-Ok.ensures.tried (Tag mark) told) in
     (refl, c.in_ok-check_mark.ensures.tested c.args.tag c.in_ok-number.ensures.passes, begun_by s c.args.txn c.in_ok-number.number (Marking c.args.client) s.cells_in_use (Tag mark) p.begun.plan _ c.in_ok-number.ensures.ready p.begun.asked p.begun.state)
 
-pub returns-in-Ok-start_planned-clause-devices : goal.returns-in-Ok-start_planned-clause-devices
-returns-in-Ok-start_planned-clause-devices g c =
+pub returns-in-Ok-clause-devices : goal.returns-in-Ok-clause-devices
+returns-in-Ok-clause-devices g c =
     let mark : Tagging = record { client = c.args.client; tag = c.args.tag } in
-    let told = tagged c.in-Ok.op.level c.in-Ok.op.bytes _ (ap (λ (j : Job). j.level) c.in-Ok.ensures.op) c.in-Ok.ensures.told in
-    (c.in-Ok-start_planned.ensures.tried (Tag mark) told).devices
+    let told = tagged c.mark-op.result.level c.mark-op.result.bytes _ (ap (λ (j : Job). j.level) c.mark-op.ensures.op) c.mark-op.ensures.told in
+    (c.in-Ok.ensures.tried (Tag mark) told).devices
 
-pub returns-clause-refused : goal.returns-clause-refused
-returns-clause-refused g c =
+pub returns-in-Err-clause-refused : goal.returns-in-Err-clause-refused
+returns-in-Err-clause-refused g c =
     let mark : Tagging = record { client = c.args.client; tag = c.args.tag } in
-    let told = tagged c.in-Ok.op.level c.in-Ok.op.bytes _ (ap (λ (j : Job). j.level) c.in-Ok.ensures.op) c.in-Ok.ensures.told in
+    let told = tagged c.mark-op.result.level c.mark-op.result.bytes _ (ap (λ (j : Job). j.level) c.mark-op.ensures.op) c.mark-op.ensures.told in
     let p = (c.in-Err.ensures.tried (Tag mark) told) in
     tried_leaves g.P.PageDevice c.args.self.now c.start_planned.new.self (Start_mark c.args.txn c.args.client c.args.tag) refl (c.in_ok-check_mark.ensures.tested c.args.tag c.in_ok-number.ensures.passes) c.in-Err.refusal p.causes p.left
 
-pub returns-in-Ok-start_planned-clause-faults : goal.returns-in-Ok-start_planned-clause-faults
-returns-in-Ok-start_planned-clause-faults g c =
+pub returns-in-Ok-clause-faults : goal.returns-in-Ok-clause-faults
+returns-in-Ok-clause-faults g c =
     let mark : Tagging = record { client = c.args.client; tag = c.args.tag } in
-    let told = tagged c.in-Ok.op.level c.in-Ok.op.bytes _ (ap (λ (j : Job). j.level) c.in-Ok.ensures.op) c.in-Ok.ensures.told in
-    (c.in-Ok-start_planned.ensures.tried (Tag mark) told).counts
+    let told = tagged c.mark-op.result.level c.mark-op.result.bytes _ (ap (λ (j : Job). j.level) c.mark-op.ensures.op) c.mark-op.ensures.told in
+    (c.in-Ok.ensures.tried (Tag mark) told).counts
 
-pub returns-clause-faults : goal.returns-clause-faults
-returns-clause-faults g c =
+pub returns-in-Err-clause-faults : goal.returns-in-Err-clause-faults
+returns-in-Err-clause-faults g c =
     let mark : Tagging = record { client = c.args.client; tag = c.args.tag } in
-    let told = tagged c.in-Ok.op.level c.in-Ok.op.bytes _ (ap (λ (j : Job). j.level) c.in-Ok.ensures.op) c.in-Ok.ensures.told in
+    let told = tagged c.mark-op.result.level c.mark-op.result.bytes _ (ap (λ (j : Job). j.level) c.mark-op.ensures.op) c.mark-op.ensures.told in
     (c.in-Err.ensures.tried (Tag mark) told).counts
 
-pub returns-clause-sizes : goal.returns-clause-sizes
-returns-clause-sizes g c =
+pub returns-in-Err-clause-sizes : goal.returns-in-Err-clause-sizes
+returns-in-Err-clause-sizes g c =
     let mark : Tagging = record { client = c.args.client; tag = c.args.tag } in
-    let told = tagged c.in-Ok.op.level c.in-Ok.op.bytes _ (ap (λ (j : Job). j.level) c.in-Ok.ensures.op) c.in-Ok.ensures.told in
+    let told = tagged c.mark-op.result.level c.mark-op.result.bytes _ (ap (λ (j : Job). j.level) c.mark-op.ensures.op) c.mark-op.ensures.told in
     (c.in-Err.ensures.tried (Tag mark) told).devices.0.sizes
 
-pub returns-clause-devices : goal.returns-clause-devices
-returns-clause-devices g c =
+pub returns-in-Err-clause-devices : goal.returns-in-Err-clause-devices
+returns-in-Err-clause-devices g c =
     let mark : Tagging = record { client = c.args.client; tag = c.args.tag } in
-    let told = tagged c.in-Ok.op.level c.in-Ok.op.bytes _ (ap (λ (j : Job). j.level) c.in-Ok.ensures.op) c.in-Ok.ensures.told in
+    let told = tagged c.mark-op.result.level c.mark-op.result.bytes _ (ap (λ (j : Job). j.level) c.mark-op.ensures.op) c.mark-op.ensures.told in
     (c.in-Err.ensures.tried (Tag mark) told).devices
 
 pub returns-in_err-number-clause-refused : goal.returns-in_err-number-clause-refused
@@ -150,15 +146,12 @@ returns-in_err-check_mark-clause-refused g c =
     let left = c.in_err-check_mark.ensures.leaves c.args.tag c.in_ok-number.ensures.passes in
     search (rules, left)
 
-pub returns-in_default-clause-refused : goal.returns-in_default-clause-refused
-returns-in_default-clause-refused g c = (c.in_ok-check_mark.ensures.tested c.args.tag c.in_ok-number.ensures.passes, refl)
+pub returns-in-Ok-clause-frames : goal.returns-in-Ok-clause-frames
+returns-in-Ok-clause-frames g c = c.in-Ok.ensures.frames (Tag (record { client = c.args.client; tag = c.args.tag })) (tagged c.mark-op.result.level c.mark-op.result.bytes _ (ap (λ (j : Job). j.level) c.mark-op.ensures.op) c.mark-op.ensures.told)
 
-pub returns-in-Ok-start_planned-clause-frames : goal.returns-in-Ok-start_planned-clause-frames
-returns-in-Ok-start_planned-clause-frames g c = c.in-Ok-start_planned.ensures.frames (Tag (record { client = c.args.client; tag = c.args.tag })) (tagged c.in-Ok.op.level c.in-Ok.op.bytes _ (ap (λ (j : Job). j.level) c.in-Ok.ensures.op) c.in-Ok.ensures.told)
-
-pub returns-clause-full : goal.returns-clause-full
-returns-clause-full g c =
-    full_more c.args.self.now _ _ (λ ws a honest. mark_writes c.args.self.now.state ws (record { client = c.args.client; tag = c.args.tag }) c.in_ok-number.number (c.in_ok-check_mark.ensures.client c.args.tag).0 (a honest)) c.in-Err.refusal (c.in-Err.ensures.frames (Tag (record { client = c.args.client; tag = c.args.tag })) (tagged c.in-Ok.op.level c.in-Ok.op.bytes _ (ap (λ (j : Job). j.level) c.in-Ok.ensures.op) c.in-Ok.ensures.told))
+pub returns-in-Err-clause-full : goal.returns-in-Err-clause-full
+returns-in-Err-clause-full g c =
+    full_more c.args.self.now _ _ (λ ws a honest. mark_writes c.args.self.now.state ws (record { client = c.args.client; tag = c.args.tag }) c.in_ok-number.number (c.in_ok-check_mark.ensures.client c.args.tag).0 (a honest)) c.in-Err.refusal (c.in-Err.ensures.frames (Tag (record { client = c.args.client; tag = c.args.tag })) (tagged c.mark-op.result.level c.mark-op.result.bytes _ (ap (λ (j : Job). j.level) c.mark-op.ensures.op) c.mark-op.ensures.told))
 
 pub returns-in_err-number-clause-full : goal.returns-in_err-number-clause-full
 returns-in_err-number-clause-full g c =

@@ -1,4 +1,4 @@
-use Rattle.std.proofs.Common.{rules, ◌≡◌, Option, Some, false, refl, sym, ap, ◌∙◌, subst}
+use Rattle.std.proofs.Common.{arith, rules, ◌≡◌, Option, Some, false, refl, sym, ap, ◌∙◌, subst}
 use Rattle.rq_model.specs.History.Call.{Undo_next}
 use Rattle.rq_model.specs.Tests.{log_full, undo_cost}
 use Rattle.rq_txn.specs.declared.Aim.TheVariants.{Undoing}
@@ -7,9 +7,12 @@ use Rattle.rq_store.specs.State.{ledger_of, op_done}
 use Rattle.rq_sound.specs.Latching.{IsLatched}
 use Rattle.rq_planner.proofs.Options.{some_told}
 use Rattle.rq_engine.specs.Aborts.{IsTurnedBack, UndoIsLatched}
+use Rattle.rq_engine.specs.Answers.{RefusesOver}
 use Rattle.rq_engine.specs.Earlier.{on}
 use Rattle.rq_engine.specs.Invariant.{IsDoneConsistent, IsLogged, end_of}
-use Rattle.rq_engine.proofs.AbortCalls.{cost_found, is_newest, is_newest_of, may_be_undone, none_done, some_left, turned_newest, undo_done, undo_full, undo_memory, undo_passes, undo_refused}
+use Rattle.rq_engine.specs.KeptUp.{RefusedButRead}
+use Rattle.rq_model.specs.declared.refusal.Refusal.TheVariants as why
+use Rattle.rq_engine.proofs.AbortCalls.{cost_few, cost_found, is_newest, is_newest_of, may_be_undone, none_done, some_left, turned_newest, undo_done, undo_full, undo_memory, undo_passes, undo_refused}
 use Rattle.rq_engine.proofs.Earlier.{full_on}
 use Rattle.rq_engine.proofs.Latches.{undo_latched, undo_unlatched}
 use Rattle.rq_engine.proofs.Leveled.{latched_for, refused_for}
@@ -23,33 +26,33 @@ pub returns-in_default-clause-answered : goal.returns-in_default-clause-answered
 returns-in_default-clause-answered g c h earlier long =
     let s = on earlier c.args.self.now.state in
     none_done s c.args.txn c.in_ok-number.number c.in_ok-number.ensures.running
-    (subst (λ (o : Option Finished). IsTurnedBack s c.args.txn c.in_ok-number.number o) (is_newest_of c.args.self.now.state _ c.args.txn _ _ (state_is c.self.view_is) c.next_undo.ensures c.in_default.is) c.in_ok-number.ensures.ready)
+    (subst (λ (o : Option Finished). IsTurnedBack s c.args.txn c.in_ok-number.number o) (is_newest_of c.args.self.now.state _ c.args.txn _ _ (state_is c.self.view_is) (sym c.in_default.ensures) refl) c.in_ok-number.ensures.ready)
 
 pub returns-then-is_log_full-clause-answered : goal.returns-then-is_log_full-clause-answered
 returns-then-is_log_full-clause-answered g c h earlier long =
     let s = on earlier c.args.self.now.state in
-    let f = c.in-Some.done in
-    let back : IsTurnedBack s c.args.txn c.in_ok-number.number (Some f) = subst (λ (o : Option Finished). IsTurnedBack s c.args.txn c.in_ok-number.number o) (is_newest_of c.args.self.now.state _ c.args.txn _ _ (state_is c.self.view_is) c.next_undo.ensures c.in-Some.is) c.in_ok-number.ensures.ready in
+    let f = c.in-Some.done.now in
+    let back : IsTurnedBack s c.args.txn c.in_ok-number.number (Some f) = subst (λ (o : Option Finished). IsTurnedBack s c.args.txn c.in_ok-number.number o) (is_newest_of c.args.self.now.state _ c.args.txn _ _ (state_is c.self.view_is) (sym c.in-Some.ensures) refl) c.in_ok-number.ensures.ready in
     undo_full s c.args.txn c.in_ok-number.number f c.in_ok-number.ensures.passes back (ap (log_full (ledger_of s)) (sym c.undo_records.ensures) ∙ full_on earlier c.args.self.now.state long _ ∙ sym c.if-is_log_full.ensures)
 
 pub start_inverse-requires-clause-ready : goal.start_inverse-requires-clause-ready
-start_inverse-requires-clause-ready g c = subst (λ (o : Option Finished). IsTurnedBack c.args.self.now.state c.args.txn c.in_ok-number.number o) (is_newest_of c.args.self.now.state _ c.args.txn _ _ (state_is c.self.view_is) c.next_undo.ensures c.in-Some.is) c.in_ok-number.ensures.ready
+start_inverse-requires-clause-ready g c = subst (λ (o : Option Finished). IsTurnedBack c.args.self.now.state c.args.txn c.in_ok-number.number o) (is_newest_of c.args.self.now.state _ c.args.txn _ _ (state_is c.self.view_is) (sym c.in-Some.ensures) (ap Some (sym c.in_ok-done.ensures))) c.in_ok-number.ensures.ready
 
 pub start_inverse-requires-clause-kept : goal.start_inverse-requires-clause-kept
-start_inverse-requires-clause-kept g c = some_told (λ (f : Finished). IsDoneConsistent c.args.self.now.state.sizes f) _ _ (is_newest_of c.args.self.now.state _ c.args.txn _ _ (state_is c.self.view_is) c.next_undo.ensures c.in-Some.is) c.in_ok-number.ensures.kept
+start_inverse-requires-clause-kept g c = some_told (λ (f : Finished). IsDoneConsistent c.args.self.now.state.sizes f) _ _ (is_newest_of c.args.self.now.state _ c.args.txn _ _ (state_is c.self.view_is) (sym c.in-Some.ensures) (ap Some (sym c.in_ok-done.ensures))) c.in_ok-number.ensures.kept
 
 pub start_inverse-requires-clause-ended : goal.start_inverse-requires-clause-ended
-start_inverse-requires-clause-ended g c = some_told (λ (f : Finished). IsLogged c.args.self.now.state.records f.lsn (end_of c.args.txn f)) _ _ (is_newest_of c.args.self.now.state _ c.args.txn _ _ (state_is c.self.view_is) c.next_undo.ensures c.in-Some.is) c.in_ok-number.ensures.ended
+start_inverse-requires-clause-ended g c = some_told (λ (f : Finished). IsLogged c.args.self.now.state.records f.lsn (end_of c.args.txn f)) _ _ (is_newest_of c.args.self.now.state _ c.args.txn _ _ (state_is c.self.view_is) (sym c.in-Some.ensures) (ap Some (sym c.in_ok-done.ensures))) c.in_ok-number.ensures.ended
 
 pub start_inverse-requires-clause-log : goal.start_inverse-requires-clause-log
-start_inverse-requires-clause-log g c = ap (log_full (ledger_of c.args.self.now.state)) (sym c.undo_records.ensures) ∙ sym c.if-is_log_full.ensures
+start_inverse-requires-clause-log g c = ap (log_full (ledger_of c.args.self.now.state)) (sym (c.undo_records.ensures ∙ ap (λ (e : Finished). undo_cost (Some (op_done e))) (sym c.in_ok-done.ensures))) ∙ sym c.if-is_log_full.ensures
 
 pub returns-in-Ok-clause-answered : goal.returns-in-Ok-clause-answered
 returns-in-Ok-clause-answered g c h earlier long =
     let s = on earlier c.args.self.now.state in
-    let f = c.in-Some.done in
-    let back : IsTurnedBack s c.args.txn c.in_ok-number.number (Some f) = subst (λ (o : Option Finished). IsTurnedBack s c.args.txn c.in_ok-number.number o) (is_newest_of c.args.self.now.state _ c.args.txn _ _ (state_is c.self.view_is) c.next_undo.ensures c.in-Some.is) c.in_ok-number.ensures.ready in
-    let room : log_full (ledger_of s) (undo_cost (Some (op_done f))) ≡ false = ap (log_full (ledger_of s)) (sym c.undo_records.ensures) ∙ full_on earlier c.args.self.now.state long _ ∙ sym c.if-is_log_full.ensures in
+    let f = c.in_ok-done.done in
+    let back : IsTurnedBack s c.args.txn c.in_ok-number.number (Some f) = subst (λ (o : Option Finished). IsTurnedBack s c.args.txn c.in_ok-number.number o) (is_newest_of c.args.self.now.state _ c.args.txn _ _ (state_is c.self.view_is) (sym c.in-Some.ensures) (ap Some (sym c.in_ok-done.ensures))) c.in_ok-number.ensures.ready in
+    let room : log_full (ledger_of s) (undo_cost (Some (op_done f))) ≡ false = ap (log_full (ledger_of s)) (sym (c.undo_records.ensures ∙ ap (λ (e : Finished). undo_cost (Some (op_done e))) (sym c.in_ok-done.ensures))) ∙ full_on earlier c.args.self.now.state long _ ∙ sym c.if-is_log_full.ensures in
     let b = (c.in-Ok.ensures.started h.0).begun in
     undo_done s c.args.txn c.in_ok-number.number f c.in_ok-number.ensures.passes back _ (record { number = c.in_ok-number.number; writes = b.writes; made = 0; aim = Undoing f.lsn f.deed }) c.in_ok-number.ensures.running refl b.planned.free
     (record { made = refl; aim = refl; plan = b.planned.planned }) room (ap (on earlier) b.state)
@@ -60,21 +63,21 @@ returns-in-Ok-clause-sizes g c = c.in-Ok.ensures.tried.devices.0.sizes
 pub returns-in-Ok-clause-latched : goal.returns-in-Ok-clause-latched
 returns-in-Ok-clause-latched g c honest earlier long k =
     let s = on earlier c.args.self.now.state in
-    let f = c.in-Some.done in
-    let back : IsTurnedBack s c.args.txn c.in_ok-number.number (Some f) = subst (λ (o : Option Finished). IsTurnedBack s c.args.txn c.in_ok-number.number o) (is_newest_of c.args.self.now.state _ c.args.txn _ _ (state_is c.self.view_is) c.next_undo.ensures c.in-Some.is) c.in_ok-number.ensures.ready in
+    let f = c.in_ok-done.done in
+    let back : IsTurnedBack s c.args.txn c.in_ok-number.number (Some f) = subst (λ (o : Option Finished). IsTurnedBack s c.args.txn c.in_ok-number.number o) (is_newest_of c.args.self.now.state _ c.args.txn _ _ (state_is c.self.view_is) (sym c.in-Some.ensures) (ap Some (sym c.in_ok-done.ensures))) c.in_ok-number.ensures.ready in
     undo_unlatched s k c.args.txn f (turned_newest s c.args.txn c.in_ok-number.number (Some f) back) (c.in-Ok.ensures.started honest).free
 
 pub returns-in-Ok-clause-lists : goal.returns-in-Ok-clause-lists
 returns-in-Ok-clause-lists g c honest =
     let s = c.args.self.now.state in
-    let f = c.in-Some.done in
+    let f = c.in_ok-done.done in
     let b = (c.in-Ok.ensures.started honest).begun in (
       refl,
       record {
         under = record { number = c.in_ok-number.number; writes = b.writes; made = 0; aim = Undoing f.lsn f.deed };
         done = f;
         number = refl;
-        ready = subst (λ (o : Option Finished). IsTurnedBack s c.args.txn c.in_ok-number.number o) (is_newest_of c.args.self.now.state _ c.args.txn _ _ (state_is c.self.view_is) c.next_undo.ensures c.in-Some.is) c.in_ok-number.ensures.ready;
+        ready = subst (λ (o : Option Finished). IsTurnedBack s c.args.txn c.in_ok-number.number o) (is_newest_of c.args.self.now.state _ c.args.txn _ _ (state_is c.self.view_is) (sym c.in-Some.ensures) (ap Some (sym c.in_ok-done.ensures))) c.in_ok-number.ensures.ready;
         plan = record { can = b.planned.can; planned = record { made = refl; aim = refl; plan = b.planned.planned }; lowest = b.planned.lowest };
         lists = b.state;
       },
@@ -83,9 +86,9 @@ returns-in-Ok-clause-lists g c honest =
 pub returns-in-Err-clause-answered : goal.returns-in-Err-clause-answered
 returns-in-Err-clause-answered g c h earlier long k =
     let s = on earlier c.args.self.now.state in
-    let f = c.in-Some.done in
-    let back : IsTurnedBack s c.args.txn c.in_ok-number.number (Some f) = subst (λ (o : Option Finished). IsTurnedBack s c.args.txn c.in_ok-number.number o) (is_newest_of c.args.self.now.state _ c.args.txn _ _ (state_is c.self.view_is) c.next_undo.ensures c.in-Some.is) c.in_ok-number.ensures.ready in
-    let room : log_full (ledger_of s) (undo_cost (Some (op_done f))) ≡ false = full_on earlier c.args.self.now.state long _ ∙ ap (log_full (ledger_of c.args.self.now.state)) (sym c.undo_records.ensures) ∙ sym c.if-is_log_full.ensures in
+    let f = c.in_ok-done.done in
+    let back : IsTurnedBack s c.args.txn c.in_ok-number.number (Some f) = subst (λ (o : Option Finished). IsTurnedBack s c.args.txn c.in_ok-number.number o) (is_newest_of c.args.self.now.state _ c.args.txn _ _ (state_is c.self.view_is) (sym c.in-Some.ensures) (ap Some (sym c.in_ok-done.ensures))) c.in_ok-number.ensures.ready in
+    let room : log_full (ledger_of s) (undo_cost (Some (op_done f))) ≡ false = full_on earlier c.args.self.now.state long _ ∙ ap (log_full (ledger_of c.args.self.now.state)) (sym (c.undo_records.ensures ∙ ap (λ (e : Finished). undo_cost (Some (op_done e))) (sym c.in_ok-done.ensures))) ∙ sym c.if-is_log_full.ensures in
     let p = c.in-Err.ensures.started h.0 in
     refused_for s _ (Undo_next c.args.txn) (UndoIsLatched s f.deed) refl c.in_ok-number.ensures.running (λ k. some_left s c.args.txn c.in_ok-number.number f c.in_ok-number.ensures.passes back) (λ k. undo_passes s c.args.txn c.in_ok-number.number f c.in_ok-number.ensures.passes back room) c.in-Err.refusal p.causes (p.sound earlier long k (is_newest s c.args.txn c.in_ok-number.number f c.in_ok-number.ensures.passes back))
     (ap (on earlier) (start_left g.P.PageDevice c.args.self.now _ c.in-Err.refusal c.in-Err.ensures.tried.devices c.in-Err.ensures.tried.left h.0))
@@ -95,17 +98,17 @@ returns-in-Err-clause-answered g c h earlier long k =
 pub returns-in-Err-clause-latched : goal.returns-in-Err-clause-latched
 returns-in-Err-clause-latched g c honest earlier long k =
     let s = on earlier c.args.self.now.state in
-    let f = c.in-Some.done in
-    let back : IsTurnedBack s c.args.txn c.in_ok-number.number (Some f) = subst (λ (o : Option Finished). IsTurnedBack s c.args.txn c.in_ok-number.number o) (is_newest_of c.args.self.now.state _ c.args.txn _ _ (state_is c.self.view_is) c.next_undo.ensures c.in-Some.is) c.in_ok-number.ensures.ready in
+    let f = c.in_ok-done.done in
+    let back : IsTurnedBack s c.args.txn c.in_ok-number.number (Some f) = subst (λ (o : Option Finished). IsTurnedBack s c.args.txn c.in_ok-number.number o) (is_newest_of c.args.self.now.state _ c.args.txn _ _ (state_is c.self.view_is) (sym c.in-Some.ensures) (ap Some (sym c.in_ok-done.ensures))) c.in_ok-number.ensures.ready in
     let p = c.in-Err.ensures.started honest in
     latched_for (UndoIsLatched s f.deed) (IsLatched s (Undo_next c.args.txn)) c.in-Err.refusal p.causes (undo_latched s k c.args.txn f (turned_newest s c.args.txn c.in_ok-number.number (Some f) back))
 
 pub returns-in-Ok-clause-begun : goal.returns-in-Ok-clause-begun
 returns-in-Ok-clause-begun g c =
     let s = c.args.self.now.state in
-    let f = c.in-Some.done in
-    let back : IsTurnedBack s c.args.txn c.in_ok-number.number (Some f) = subst (λ (o : Option Finished). IsTurnedBack s c.args.txn c.in_ok-number.number o) (is_newest_of c.args.self.now.state _ c.args.txn _ _ (state_is c.self.view_is) c.next_undo.ensures c.in-Some.is) c.in_ok-number.ensures.ready in
-    let tests = undo_tested c.args.self.now c.args.txn c.in_ok-number.ensures.passes (ap (λ n. log_full (ledger_of s) n) (cost_found s c.args.txn c.in_ok-number.number f c.in_ok-number.ensures.passes back ∙ sym c.undo_records.ensures) ∙ sym c.if-is_log_full.ensures) in
+    let f = c.in_ok-done.done in
+    let back : IsTurnedBack s c.args.txn c.in_ok-number.number (Some f) = subst (λ (o : Option Finished). IsTurnedBack s c.args.txn c.in_ok-number.number o) (is_newest_of c.args.self.now.state _ c.args.txn _ _ (state_is c.self.view_is) (sym c.in-Some.ensures) (ap Some (sym c.in_ok-done.ensures))) c.in_ok-number.ensures.ready in
+    let tests = undo_tested c.args.self.now c.args.txn c.in_ok-number.ensures.passes (ap (λ n. log_full (ledger_of s) n) (cost_found s c.args.txn c.in_ok-number.number f c.in_ok-number.ensures.passes back ∙ sym (c.undo_records.ensures ∙ ap (λ (e : Finished). undo_cost (Some (op_done e))) (sym c.in_ok-done.ensures))) ∙ sym c.if-is_log_full.ensures) in
     let b = c.in-Ok.ensures.tried.begun in (
       refl,
       tests,
@@ -122,7 +125,7 @@ returns-in-Ok-clause-begun g c =
 pub returns-in_default-clause-none : goal.returns-in_default-clause-none
 returns-in_default-clause-none g c =
     let s = c.args.self.now.state in
-    (refl, ((c.in_ok-number.number, subst (λ (o : Option Finished). IsTurnedBack s c.args.txn c.in_ok-number.number o) (is_newest_of c.args.self.now.state _ c.args.txn _ _ (state_is c.self.view_is) c.next_undo.ensures c.in_default.is) c.in_ok-number.ensures.ready), refl))
+    (refl, ((c.in_ok-number.number, subst (λ (o : Option Finished). IsTurnedBack s c.args.txn c.in_ok-number.number o) (is_newest_of c.args.self.now.state _ c.args.txn _ _ (state_is c.self.view_is) (sym c.in_default.ensures) refl) c.in_ok-number.ensures.ready), refl))
 
 pub returns-in-Ok-clause-devices : goal.returns-in-Ok-clause-devices
 returns-in-Ok-clause-devices g c = c.in-Ok.ensures.tried.devices
@@ -130,9 +133,9 @@ returns-in-Ok-clause-devices g c = c.in-Ok.ensures.tried.devices
 pub returns-in-Err-clause-refused : goal.returns-in-Err-clause-refused
 returns-in-Err-clause-refused g c =
     let s = c.args.self.now.state in
-    let f = c.in-Some.done in
-    let back : IsTurnedBack s c.args.txn c.in_ok-number.number (Some f) = subst (λ (o : Option Finished). IsTurnedBack s c.args.txn c.in_ok-number.number o) (is_newest_of c.args.self.now.state _ c.args.txn _ _ (state_is c.self.view_is) c.next_undo.ensures c.in-Some.is) c.in_ok-number.ensures.ready in
-    let tests = undo_tested c.args.self.now c.args.txn c.in_ok-number.ensures.passes (ap (λ n. log_full (ledger_of s) n) (cost_found s c.args.txn c.in_ok-number.number f c.in_ok-number.ensures.passes back ∙ sym c.undo_records.ensures) ∙ sym c.if-is_log_full.ensures) in
+    let f = c.in_ok-done.done in
+    let back : IsTurnedBack s c.args.txn c.in_ok-number.number (Some f) = subst (λ (o : Option Finished). IsTurnedBack s c.args.txn c.in_ok-number.number o) (is_newest_of c.args.self.now.state _ c.args.txn _ _ (state_is c.self.view_is) (sym c.in-Some.ensures) (ap Some (sym c.in_ok-done.ensures))) c.in_ok-number.ensures.ready in
+    let tests = undo_tested c.args.self.now c.args.txn c.in_ok-number.ensures.passes (ap (λ n. log_full (ledger_of s) n) (cost_found s c.args.txn c.in_ok-number.number f c.in_ok-number.ensures.passes back ∙ sym (c.undo_records.ensures ∙ ap (λ (e : Finished). undo_cost (Some (op_done e))) (sym c.in_ok-done.ensures))) ∙ sym c.if-is_log_full.ensures) in
     tried_leaves g.P.PageDevice c.args.self.now c.start_inverse.new.self (Undo_next c.args.txn) refl tests c.in-Err.refusal c.in-Err.ensures.tried.causes c.in-Err.ensures.tried.left
 
 pub returns-in-Ok-clause-faults : goal.returns-in-Ok-clause-faults
@@ -155,8 +158,8 @@ returns-in_err-number-clause-refused g c =
 pub returns-then-is_log_full-clause-refused : goal.returns-then-is_log_full-clause-refused
 returns-then-is_log_full-clause-refused g c =
     let s = c.args.self.now.state in
-    let f = c.in-Some.done in
-    let back : IsTurnedBack s c.args.txn c.in_ok-number.number (Some f) = subst (λ (o : Option Finished). IsTurnedBack s c.args.txn c.in_ok-number.number o) (is_newest_of c.args.self.now.state _ c.args.txn _ _ (state_is c.self.view_is) c.next_undo.ensures c.in-Some.is) c.in_ok-number.ensures.ready in
+    let f = c.in-Some.done.now in
+    let back : IsTurnedBack s c.args.txn c.in_ok-number.number (Some f) = subst (λ (o : Option Finished). IsTurnedBack s c.args.txn c.in_ok-number.number o) (is_newest_of c.args.self.now.state _ c.args.txn _ _ (state_is c.self.view_is) (sym c.in-Some.ensures) refl) c.in_ok-number.ensures.ready in
     undo_log_full c.args.self.now c.args.txn c.in_ok-number.ensures.passes (ap (λ n. log_full (ledger_of s) n) (cost_found s c.args.txn c.in_ok-number.number f c.in_ok-number.ensures.passes back ∙ sym c.undo_records.ensures) ∙ sym c.if-is_log_full.ensures)
 
 pub returns-in-Ok-clause-frames : goal.returns-in-Ok-clause-frames
@@ -165,11 +168,38 @@ returns-in-Ok-clause-frames g c = c.in-Ok.ensures.frames
 pub returns-in-Err-clause-frames : goal.returns-in-Err-clause-frames
 returns-in-Err-clause-frames g c =
     let s = c.args.self.now.state in
-    let f = c.in-Some.done in
-    let back : IsTurnedBack s c.args.txn c.in_ok-number.number (Some f) = subst (λ (o : Option Finished). IsTurnedBack s c.args.txn c.in_ok-number.number o) (is_newest_of c.args.self.now.state _ c.args.txn _ _ (state_is c.self.view_is) c.next_undo.ensures c.in-Some.is) c.in_ok-number.ensures.ready in
+    let f = c.in_ok-done.done in
+    let back : IsTurnedBack s c.args.txn c.in_ok-number.number (Some f) = subst (λ (o : Option Finished). IsTurnedBack s c.args.txn c.in_ok-number.number o) (is_newest_of c.args.self.now.state _ c.args.txn _ _ (state_is c.self.view_is) (sym c.in-Some.ensures) (ap Some (sym c.in_ok-done.ensures))) c.in_ok-number.ensures.ready in
     full_more c.args.self.now _ _ (λ ws a honest. undo_writes s ws c.args.txn c.in_ok-number.number f back (a honest)) c.in-Err.refusal c.in-Err.ensures.frames
 
 pub returns-in_err-number-clause-frames : goal.returns-in_err-number-clause-frames
 returns-in_err-number-clause-frames g c =
     let none = (λ (A B : Type 0). no_test_frames A B _ c.in_err-number.ensures.refused.plain) in
     search (rules, none)
+
+-- no memory for the deed
+pub returns-in_err-done-clause-answered : goal.returns-in_err-done-clause-answered
+returns-in_err-done-clause-answered g c =
+    let old = c.args.self.now.state in
+    let f = c.in-Some.done.now in
+    let refuses : RefusesOver old (Undo_next c.args.txn) why.NoMemory = λ earlier long.
+    let s = on earlier old in
+    let back : IsTurnedBack s c.args.txn c.in_ok-number.number (Some f) = subst (λ (o : Option Finished). IsTurnedBack s c.args.txn c.in_ok-number.number o) (is_newest_of old _ c.args.txn _ _ (state_is c.self.view_is) (sym c.in-Some.ensures) refl) c.in_ok-number.ensures.ready in
+    let room : log_full (ledger_of s) (undo_cost (Some (op_done f))) ≡ false = full_on earlier old long _ ∙ ap (log_full (ledger_of old)) (sym c.undo_records.ensures) ∙ sym c.if-is_log_full.ensures in
+    undo_memory s c.args.txn c.in_ok-number.number f c.in_ok-number.ensures.passes back c.in_ok-number.ensures.running room in
+    search (rules, refuses)
+
+pub returns-in_err-done-clause-refused : goal.returns-in_err-done-clause-refused
+returns-in_err-done-clause-refused g c =
+    let s = c.args.self.now.state in
+    let f = c.in-Some.done.now in
+    let back : IsTurnedBack s c.args.txn c.in_ok-number.number (Some f) = subst (λ (o : Option Finished). IsTurnedBack s c.args.txn c.in_ok-number.number o) (is_newest_of c.args.self.now.state _ c.args.txn _ _ (state_is c.self.view_is) (sym c.in-Some.ensures) refl) c.in_ok-number.ensures.ready in
+    let tests = undo_tested c.args.self.now c.args.txn c.in_ok-number.ensures.passes (ap (λ n. log_full (ledger_of s) n) (cost_found s c.args.txn c.in_ok-number.number f c.in_ok-number.ensures.passes back ∙ sym c.undo_records.ensures) ∙ sym c.if-is_log_full.ensures) in
+    let left : RefusedButRead (Undo_next c.args.txn) c.args.self.now why.NoMemory c.args.self.now = (tests, refl) in
+    search (rules, left)
+
+pub is_log_full-requires : goal.is_log_full-requires
+is_log_full-requires g c =
+    let few = cost_few c.in-Some.done.now.deed in
+    let is = c.undo_records.ensures in
+    omega (arith, few, is)

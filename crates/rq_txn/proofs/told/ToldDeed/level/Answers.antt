@@ -5,5 +5,5 @@ use Rattle.rq_txn.proofs.told.ToldDeed.level.Goals as goal
 
 pub returns : goal.returns
 returns c =
-    let told : deed_by c.self.inside.level c.self.inside.bytes ≡ Some c.args.self.now = c.self.invariant.told.reads ∙ ap Some c.self.view_is in
-    sym (told_by_its_level c.self.inside.level c.self.inside.bytes c.args.self.now told)
+    let told : deed_by c.self.inside.level c.self.inside.bytes.items ≡ Some c.args.self.now = c.self.invariant.0.told.reads ∙ ap Some c.self.view_is in
+    sym (told_by_its_level c.self.inside.level c.self.inside.bytes.items c.args.self.now told)

@@ -1,9 +1,9 @@
-use Rattle.std.proofs.Common.{◌≡◌, ◌<◌, ◌≤◌, length, refl, subst, arith}
+use Rattle.std.proofs.Common.{◌≡◌, ◌<◌, ◌≤◌, length, sym, subst, arith}
 use Rattle.rq_store.specs.State.{State}
-use Rattle.rq_engine.specs.Answers.{IsNotUnderWay}
+use Rattle.rq_engine.specs.Answers.{IsNotUnderWay, ending_of}
 use Rattle.rq_engine.proofs.Calls.{under_is}
 use Rattle.rq_engine.proofs.Opened.{state_is}
-use Rattle.rq_engine.proofs.engine.Engine.ready_aim.Goals as goal
+use Rattle.rq_engine.proofs.engine.Engine.ready.Goals as goal
 
 pub returns-in_default-clause-refused : goal.returns-in_default-clause-refused
 returns-in_default-clause-refused g c =
@@ -15,4 +15,4 @@ returns-then-operation-len-clause-refused g c =
 
 pub returns-clause-ready : goal.returns-clause-ready
 returns-clause-ready g c =
-    under_is _ _ (state_is c.self.view_is) c.args.sub _ c.in-Some.ensures (λ u. (length u.writes ≤ u.made) × (u.aim ≡ c.in-Some.operation.now.aim)) (omega arith, refl)
+    under_is _ _ (state_is c.self.view_is) c.args.sub _ c.in-Some.ensures (λ u. (length u.writes ≤ u.made) × (ending_of u.aim ≡ c.ending_of.result)) (omega arith, sym c.ending_of.ensures)
