@@ -29,6 +29,7 @@ enum Act {
     Begin,
     /// Of a message with no body, under the first sender.
     Send(u64),
+    Receive(u64),
     /// A transaction, a client and a tag.
     Mark(u64, u32, u64),
     Step(u64, u64),
@@ -44,8 +45,8 @@ enum Act {
 }
 
 /// A call, and what it answers as a number: a count, an operation's number or an LSN; of a sender or a client its last tag and a
-/// hundred times how often it sent or was marked; 0 where all slots are written; `REFUSED` and the number of a refusal; and one of
-/// the words below.
+/// hundred times how often it sent or was marked; 0 where all slots are written; `REFUSED` and the number of a refusal; `RECEIVED`
+/// and the tag of a message; and one of the words below.
 type Row = (Act, u64);
 
 const REFUSED: u64 = 1000;
@@ -65,6 +66,8 @@ const ABORTED: u64 = 2005;
 const WRITTEN: u64 = 2006;
 
 const UNCHANGED: u64 = 2007;
+
+const RECEIVED: u64 = 3000;
 
 const OTHER: u64 = u64::MAX;
 
@@ -119,11 +122,16 @@ const BEFORE: [Row; 46] = [
     (Act::Write(3), WRITTEN),
 ];
 
-// What is left of them: what was committed.
-const BEHIND: [Row; 3] = [
+// What is left of them: what was committed. The message is received.
+const BEHIND: [Row; 8] = [
     (Act::LastTag(0), 107),
     (Act::ClientTag(0), 170),
     (Act::ClientTag(1), 0),
+    (Act::Begin, 1),
+    (Act::Receive(1), 1),
+    (Act::Step(1, 1), 31),
+    (Act::Step(1, 1), 32),
+    (Act::Finish(1, 1), RECEIVED + 7),
 ];
 
 // Over pages as they were written last the restart takes marks back, and else makes nothing again.
@@ -172,6 +180,7 @@ fn event_of(alloc: Global, incarnation: u64, act: Act) -> Event {
             tag: 7,
             body: Vec::new(alloc),
         },
+        Act::Receive(count) => Event::StartReceive(of(count)),
         Act::Mark(count, client, tag) => Event::StartMark {
             txn: of(count),
             client,
@@ -203,6 +212,7 @@ fn number_of(reply: &Reply) -> u64 {
         Reply::Stepped(Progress::Done(lsn)) => *lsn,
         Reply::Stepped(Progress::Ready) => 0,
         Reply::Finished(Outcome::Sent) => SENT,
+        Reply::Finished(Outcome::Message(message)) => RECEIVED.saturating_add(message.tag),
         Reply::Finished(Outcome::Marked) => MARKED,
         Reply::Finished(Outcome::Undone) => UNDONE,
         Reply::Committed(number) => number.lsn(),
@@ -445,21 +455,23 @@ fn each_level_is_asked_what_is_its_own(rt: HostRuntime) -> Result<(), Fail> {
     let left = run(rt.alloc(), pages, log, &first, &BEFORE)?;
     assert!(rt; left.is_answered);
     // Two sends, of which one is taken back; four marks, of which one is taken back and three have ends. Thirteen writes are told
-    // behind the opening, and the cell that each send's plan gave back. What is planned or taken back wants slots.
+    // behind the opening, and the cell that each send's plan gave back. What is planned or taken back wants slots. No message is
+    // received, so no level is asked what an end answers.
     assert!(rt; first.slots.counts() == counts(0, 0, 0, 1, 0));
-    assert!(rt; first.chains.counts() == reading(counts(2, 1, 0, 61, 2), 0, true));
-    assert!(rt; first.tags.counts() == reading(counts(4, 1, 0, 61, 3), 0, true));
+    assert!(rt; first.chains.counts() == reading(counts(2, 1, 0, 61, 0), 0, true));
+    assert!(rt; first.tags.counts() == reading(counts(4, 1, 0, 61, 0), 0, true));
     assert!(rt; first.bystander.counts() == counts(0, 0, 0, 61, 0));
     let (pages, log) = crashed(left, PageChoice::Synced);
     let second = all_asks(rt.alloc()).map_err(|_| "memory")?;
     let left = run(rt.alloc(), pages, log, &second, &BEHIND)?;
     assert!(rt; left.is_answered);
     // Thirteen writes are made again, one is undone, and one takes back the lost mark, behind what the opening tells. Two ends of
-    // sends and three of marks are read, and the lost mark's is again where it is taken back.
+    // sends and three of marks are read, and the lost mark's is again where it is taken back. Then a message is received with two
+    // writes, and the level of chains is asked which.
     assert!(rt; second.slots.counts() == counts(0, 1, 15, 1, 0));
-    assert!(rt; second.chains.counts() == reading(counts(0, 0, 0, 47, 0), 2, false));
-    assert!(rt; second.tags.counts() == reading(counts(0, 1, 0, 47, 0), 4, true));
-    assert!(rt; second.bystander.counts() == counts(0, 0, 0, 47, 0));
+    assert!(rt; second.chains.counts() == reading(counts(1, 0, 0, 49, 1), 2, true));
+    assert!(rt; second.tags.counts() == reading(counts(0, 1, 0, 49, 0), 4, true));
+    assert!(rt; second.bystander.counts() == counts(0, 0, 0, 49, 0));
     Ok(())
 }
 

@@ -26,7 +26,7 @@ use rq_page::addr::Addr;
 use rq_page::client::ClientSlot;
 use rq_page::layout::{Layout, SLOTS};
 use rq_page::page::Page;
-use rq_record::{decode_mark, decode_told, encode_mark};
+use rq_record::{decode_mark, decode_told, spell_mark};
 
 // The greatest count to which a tag is added.
 const TAG_LIMIT: u64 = 1 << 50;
@@ -201,7 +201,7 @@ fn make(plan: &mut Plan, layout: &Layout, given: &Slots, change: Change) -> Resu
             match change.before {
                 Some(_) => take_back(plan),
                 None => {
-                    plan.deed = encode_mark(change.client, change.tag, held.tag);
+                    spell_mark(&mut plan.deed, change.client, change.tag, held.tag);
                     plan.reply = Replies::Deed(Gist::Mark {
                         client: change.client,
                         tag: change.tag,

@@ -3,7 +3,7 @@ use rq_model::message::Body;
 use rq_model::record::DeedBytes;
 use rq_model::txn::Txn;
 use rq_record::{
-    Deed, Record, Step, decode, decode_deed, decode_mark, encode, encode_append, encode_mark,
+    Deed, Record, Step, decode, decode_deed, decode_mark, encode, spell_append, spell_mark,
 };
 use std::test::Fail;
 
@@ -127,17 +127,21 @@ fn read_mark(bytes: &[u8]) -> Option<Deed> {
     decode_mark(bytes)
 }
 
-fn spell_mark(client: u32, tag: u64, previous: u64) -> DeedBytes {
-    encode_mark(client, tag, previous)
+fn mark_bytes(client: u32, tag: u64, previous: u64) -> DeedBytes {
+    let mut deed = DeedBytes::empty();
+    spell_mark(&mut deed, client, tag, previous);
+    deed
 }
 
 // The end of the first send of sender 0, with tag 7 and this body.
 fn end_of(body: &Body) -> Step {
+    let mut deed = DeedBytes::empty();
+    spell_append(&mut deed, 0, 1, 7, 0, body.as_slice());
     let record = Record::OpEnd {
         txn: FIRST,
         operation: 1,
         level: 1,
-        deed: encode_append(0, 1, 7, 0, body.as_slice()),
+        deed,
     };
     Step::Record(record, 64)
 }
@@ -204,7 +208,7 @@ fn marks_are_read_and_spelled(rt: HostRuntime) {
         previous: 7,
     };
     let spelled: &[u8] = b"\x01\0\0\0\x03\0\0\0\0\0\0\0\x46\0\0\0\0\0\0\0\x07";
-    assert!(rt; spell_mark(3, 70, 7).as_slice() == spelled);
+    assert!(rt; mark_bytes(3, 70, 7).as_slice() == spelled);
     assert!(rt; read_mark(spelled) == Some(mark));
     assert!(rt; read_mark(&spelled[..20]) == None);
     assert!(rt; read_deed(spelled) == None);

@@ -30,4 +30,4 @@ returns-in-None-clause-mark c e k =
     let is = c.in-Some-changed.ensures.mark e in
     let one = alone c.args.layout.now c.put_only.new.writes.items c.write.result _ c.in-Ok.ensures c.write.ensures in
     is_tag_plan c.args.layout.now k c.args.given.now c.args.change.client c.args.change.tag _ c.in-Some.held c.in-Some-changed.after c.in-Some.ensures.some
-    one.0 one.1 is.0 is.1 c.encode_mark-plan.ensures.spelled c.encode_mark-plan.ensures.told refl
+    one.0 one.1 is.0 is.1 c.spell_mark.ensures.spelled c.spell_mark.ensures.told refl
