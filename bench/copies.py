@@ -1,8 +1,8 @@
 #!/usr/bin/env python3
-"""Counts what a transaction allocates and copies that sends, receives or aborts beside one other: by valgrind, in a run of few and
-one of many, of which the one is taken off the other.
+"""Counts what a transaction allocates and copies that sends a byte, sends the longest body (long), receives, or aborts beside one
+other: by valgrind, in a run of few and one of many, of which the one is taken off the other.
 
-    python3 bench/copies.py [--program PROGRAM] [send|receive|commit|abort ..]
+    python3 bench/copies.py [--program PROGRAM] [send|long|receive|commit|abort ..]
 """
 import collections
 import json
@@ -14,7 +14,7 @@ import tempfile
 
 from program import built, parser
 
-KINDS = ("send", "receive", "commit", "abort")
+KINDS = ("send", "long", "receive", "commit", "abort")
 # Directory and cell pages.
 STORE = ("280", "1024")
 FEW = 100

@@ -27,6 +27,7 @@ ROWS = [
     (["append", "appended", "100"], b"", "100 appends\n"),
     (["beside", "receive", "2", "4", "received", "8", "10", "10"], b"", "10 transactions\n"),
     (["beside", "abort", "2", "4", "sent", "8", "0", "10"], b"", "10 transactions\n"),
+    (["beside", "long", "2", "4", "begun", "8", "0", "10"], b"", "10 transactions\n"),
     (["beside", "commit", "2", "4", "begun", "8", "0", "10"], b"", "10 transactions\n"),
     (["make", ".", "1", "1", "10"], b"", "10 messages\n"),
     (["open", "."], b"", "restarted 2 unfinished 0 lost 0, 82 records\n"),

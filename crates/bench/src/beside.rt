@@ -3,6 +3,7 @@ use crate::others::open_others;
 use crate::store::new_engine;
 use crate::transactions::Queue;
 use crate::words::{named, number, sizes};
+use rq_model::message::BODY_LIMIT;
 use rq_page::layout::Layout;
 use std::alloc::Global;
 use std::io;
@@ -11,18 +12,21 @@ use std::io::Write;
 /// What a transaction that is gone through does.
 #[derive(Clone, Copy)]
 enum Kind {
-    /// It sends and commits.
+    /// It sends a byte and commits.
     Send,
+    /// It sends the longest body and commits.
+    Long,
     /// It receives and commits.
     Receive,
     /// It commits.
     Commit,
-    /// It sends and aborts.
+    /// It sends a byte and aborts.
     Abort,
 }
 
-const KINDS: [(&str, Kind); 4] = [
+const KINDS: [(&str, Kind); 5] = [
     ("send", Kind::Send),
+    ("long", Kind::Long),
     ("receive", Kind::Receive),
     ("commit", Kind::Commit),
     ("abort", Kind::Abort),
@@ -116,6 +120,7 @@ fn one<Q: Queue>(queue: &mut Q, kind: Kind, sender: u32) -> Option<()> {
     let txn = queue.begin()?;
     match kind {
         Kind::Send => queue.send(txn, sender, b"x")?,
+        Kind::Long => queue.send(txn, sender, &[b'x'; BODY_LIMIT])?,
         Kind::Receive => queue.receive(txn)?,
         Kind::Commit => {}
         Kind::Abort => {
