@@ -279,7 +279,7 @@ SEEDS, FRAMES = (1, 3, 5), 8
 BETWEEN = [], [b"restart-stop 1 0 " + SYNCED], [b"restart-stop 1 0 " + NEWEST]
 
 # What has to be met, and how often at least: the refusals, and how many operations and transactions the next restart undoes.
-MET = {"NoMemory": 450, "DiskWrite": 270, "1 1": 650, "0 1": 90}
+MET = {"NoMemory": 430, "DiskWrite": 270, "1 1": 650, "0 1": 70}
 
 
 class Restarting:
